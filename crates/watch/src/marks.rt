@@ -1,0 +1,28 @@
+// Marks, and sets of them.
+//
+// A mark is a number from 1 on that a watcher shows once a term can no longer hold.
+ghost use mathlib.Core.Path.{_≡_};
+ghost use Rattle.watch.specs.Marks.{has};
+
+// The most marks that a watcher can have.
+pub const MOST_MARKS: u8 = 8;
+
+// A set of marks: mark i is bit i - 1.
+#[derive(Clone, Copy, PartialEq, Eq, Debug)]
+pub struct MarkSet {
+    pub bits: u8,
+}
+
+impl MarkSet {
+    pub const EMPTY: MarkSet = MarkSet { bits: 0 };
+
+    // Whether the mark is in the set. There is no mark 0.
+    pub fn has(self, mark: u8) -> bool
+        ensures { λ r. ⌜ r ≡ has mark (self .bits) ⌝ }
+    {
+        if mark == 0 || mark > MOST_MARKS {
+            return false;
+        }
+        (self.bits >> (mark - 1)) & 1 == 1
+    }
+}
