@@ -5,6 +5,7 @@ use mathlib.Core.Bool.{false}
 use mathlib.Core.Logic.{_⊎_, inl, inr, ⊎-elim, _≢_}
 use Prim.Native.Nat.{ℕ, zero, suc, _+_, _-_, min, _^_, _<_, _≤_}
 use native.Mathlib.Omega.{arith}
+use lib.Pow.{pow-mono}
 use native.Mathlib.Nat.{add-zero, add-suc}
 use native.Mathlib.Numerals.{add-one}
 use lib.ListN.{length, getD, drop, set}
@@ -92,3 +93,7 @@ module _ (w : Watching) (letters : List ℕ) (before after : List Passed) (n sta
                   subst (Has i) (sym shown-is) (subst (λ (j : ℕ). Has i (w .shown (passed w r j))) to-end stays);
             };
       }
+
+-- A set of marks fits a byte.
+pub shown-byte : (w : Watching) → Lawful w → (s : ℕ) → w .shown s < 256
+shown-byte w law s = omega (arith, law .shown-within s, pow-mono (law .few-marks))

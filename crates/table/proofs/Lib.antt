@@ -1,0 +1,3 @@
+mod Heads
+mod Subsets
+mod States
