@@ -4,7 +4,6 @@ use mathlib.Core.List.{List, []}
 use mathlib.Core.Bool.{Bool, true, false, cond, _&&_}
 use mathlib.Core.Logic.{∥∥₁-elim}
 use Prim.Native.Nat.{ℕ, zero, suc, _+_, _*_, _/_, _%_, _^_, _<_, _≤_}
-use native.Mathlib.Nat.{zero-div}
 use native.Mathlib.Omega.{arith}
 use lib.Dec.{ltb}
 use lib.ListN.{getD}
@@ -15,6 +14,7 @@ use Rattle.watch.specs.Letters.{letter-count}
 use Rattle.watch.specs.Marks.{Has}
 use Rattle.watch.specs.Runs.{Run, Holds, passed}
 use Rattle.watch.specs.Watchers.{Watching, Lawful}
+use Rattle.watch.proofs.Bits.{no-mark}
 use Rattle.watch.proofs.Uniqueness.{lawful-unique}
 use Rattle.table.specs.Drawings.{drawn, Head, Sized, StateLawful}
 use Rattle.table.specs.declared.table.Table.{Table}
@@ -22,11 +22,6 @@ use Rattle.table.specs.declared.table.Table.{Table}
 -- What the table's type carries.
 pub table-lawful : (t : Table) → Lawful (drawn (vec-items (t .words)))
 table-lawful t = ∥∥₁-elim (t .lawful) (lawful-unique (drawn (vec-items (t .words)))) (λ law. law)
-
--- No set, no mark.
-pub no-mark : (i : ℕ) → Has i 0 → ⊥
-no-mark zero has = has
-no-mark (suc j) has = omega (arith, zero-div (2 ^ j))
 
 module _ (words : List ℕ) where
   abbrev n : ℕ

@@ -3,7 +3,7 @@ use mathlib.Core.Path.{_≡_, refl, sym, _∙_, ap}
 use mathlib.Core.Bool.{Bool, true, false}
 use mathlib.Core.Logic.{_⊎_, inl, inr, ⊎-elim}
 use Prim.Native.Nat.{ℕ, zero, suc, _+_, _-_, _*_, _/_, _%_, _^_, _<_, _≤_}
-use native.Mathlib.Nat.{div-div-eq-div-mul, div-one, pow-suc, mul-comm, div-eq-of-lt}
+use native.Mathlib.Nat.{div-div-eq-div-mul, div-one, pow-suc, mul-comm, div-eq-of-lt, zero-div}
 use native.Mathlib.Omega.{arith}
 use lib.Bits.{bitAnd}
 use lib.Dec.{eqb}
@@ -37,3 +37,8 @@ has-past n (suc j) set small past =
 
     none : set < 2 ^ j → eqb ((set / (2 ^ j)) % 2) 1 ≡ false
     none lt = ap (λ (m : ℕ). eqb (m % 2) 1) (div-eq-of-lt lt)
+
+-- The empty set has no mark.
+pub no-mark : (i : ℕ) → Has i 0 → ⊥
+no-mark zero has = has
+no-mark (suc j) has = omega (arith, zero-div (2 ^ j))

@@ -7,6 +7,9 @@ ghost use Rattle.watch.specs.Watchers.{Watching, Lawful};
 ghost use Rattle.watch.specs.Sizes.{«sizes-of»};
 use crate::marks::MarkSet;
 
+// The most states that a watcher can have.
+pub const MOST_STATES: u16 = 16_384;
+
 // How many states, events, letters and marks a watcher has. Marks are numbered from 1, the others from 0.
 #[derive(Clone, Copy, PartialEq, Eq, Debug)]
 pub struct Sizes {

@@ -1,0 +1,4 @@
+mod Stubs
+mod Delays
+mod Besides
+mod Pairs

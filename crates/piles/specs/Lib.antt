@@ -1,0 +1,4 @@
+pub mod Refusals
+pub mod Stubs
+pub mod Delays
+pub mod Pairs
