@@ -22,9 +22,9 @@ low x y k j h =
     let z : ℕ = y * 2 ^ (k - (j + 1)) in
     let up : k ≡ k - (j + 1) + (1 + j) = omega arith in
     let e : y * 2 ^ k ≡ (z * 2) * 2 ^ j =
-        ap (λ (n : ℕ). y * 2 ^ n) up
-        ∙ ap (λ (n : ℕ). y * n) (pow-add 2 (k - (j + 1)) (1 + j) ∙ ap (λ (n : ℕ). 2 ^ (k - (j + 1)) * n) (pow-add 2 1 j))
-        ∙ sym (mul-assoc y (2 ^ (k - (j + 1))) (2 * 2 ^ j)) ∙ sym (mul-assoc z 2 (2 ^ j)) in
+    ap (λ (n : ℕ). y * 2 ^ n) up
+    ∙ ap (λ (n : ℕ). y * n) (pow-add 2 (k - (j + 1)) (1 + j) ∙ ap (λ (n : ℕ). 2 ^ (k - (j + 1)) * n) (pow-add 2 1 j))
+    ∙ sym (mul-assoc y (2 ^ (k - (j + 1))) (2 * 2 ^ j)) ∙ sym (mul-assoc z 2 (2 ^ j)) in
     ap (λ (n : ℕ). (x + n) / 2 ^ j % 2) e
     ∙ ap (λ (n : ℕ). n % 2) (add-mul-div-right x (z * 2) (pow-pos j))
     ∙ add-mul-mod-self-right (x / 2 ^ j) z 2

@@ -57,7 +57,7 @@ module _ (w : Watching) (n : ℕ) (law : Lawful w) (fits : fits-delay w n ≡ tr
     marks-stay = λ s a i hs ha has.
         ⊎-elim
         (λ below. subst (Has i) (sym (ap (delayed w n .shown) (next-below s a below ha) ∙ shown-below (w .next s a) (law .next-within s a)))
-            (law .marks-stay s a i below ha (subst (Has i) (shown-below s below) has)))
+        (law .marks-stay s a i below ha (subst (Has i) (shown-below s below) has)))
         (λ unseen. absurd (no-mark i (subst (Has i) (shown-unseen s unseen) has)))
         (cases-lt s (w .states));
   }
@@ -91,8 +91,8 @@ module _ (w : Watching) (n : ℕ) (law : Lawful w) (fits : fits-delay w n ≡ tr
           ⊎-elim
           (λ early. no-mark i (subst (Has i) (ap (delayed w n .shown) (passed-unseen k early) ∙ shown-unseen (w .states + k) (omega arith)) has))
           (λ late.
-              let e : k ≡ n + (k - n) = omega arith in
-              holds (k - n) (subst (Has i) (shown-seen (k - n)) (subst (λ (j : ℕ). Has i (delayed w n .shown (passed (delayed w n) r j))) e has)))
+          let e : k ≡ n + (k - n) = omega arith in
+          holds (k - n) (subst (Has i) (shown-seen (k - n)) (subst (λ (j : ℕ). Has i (delayed w n .shown (passed (delayed w n) r j))) e has)))
           (cases-lt k n);
     }
 

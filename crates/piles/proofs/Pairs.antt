@@ -44,7 +44,7 @@ module _ (v w : Watching) (p : Lawful v) (q : Lawful w) (fits : Fit v w) where
       → paired v w .next (s * w .states + t) a ≡ v .next s a * w .states + w .next t a
   next-joined s t a hs ht ha =
       cond-true (ltb (s * w .states + t) (v .states * w .states) && ltb a (letter-count (v .events))) _ _
-          (and-from (ltb (s * w .states + t) (v .states * w .states)) (ltb a (letter-count (v .events))) (lt-ltb _ _ (joined-within s t hs ht)) (lt-ltb _ _ ha))
+      (and-from (ltb (s * w .states + t) (v .states * w .states)) (ltb a (letter-count (v .events))) (lt-ltb _ _ (joined-within s t hs ht)) (lt-ltb _ _ ha))
       ∙ (λ i. v .next (div-mul-add s (w .states) t ht i) a * w .states + w .next (mod-mul-add s (w .states) t ht i) a)
 
   shown-joined : (s t : ℕ) → s < v .states → t < w .states
@@ -105,7 +105,7 @@ module _ (v w : Watching) (p : Lawful v) (q : Lawful w) (fits : Fit v w) where
         let hs1 = div-below s (w .states) (v .states) (q .some-state) hs in
         let hs2 = mod-below s (w .states) (q .some-state) in
         let went : paired v w .next s a ≡ v .next (s / w .states) a * w .states + w .next (s % w .states) a =
-            ap (λ (t : ℕ). paired v w .next t a) (sym (parts s)) ∙ next-joined (s / w .states) (s % w .states) a hs1 hs2 ha in
+        ap (λ (t : ℕ). paired v w .next t a) (sym (parts s)) ∙ next-joined (s / w .states) (s % w .states) a hs1 hs2 ha in
         subst (λ (t : ℕ). Has i (paired v w .shown t)) (sym went)
         (marks-stay (s / w .states) (s % w .states) a i hs1 hs2 ha (subst (λ (t : ℕ). Has i (paired v w .shown t)) (sym (parts s)) has));
   }

@@ -3,10 +3,14 @@ use mathlib.Core.Path.{_≡_}
 use mathlib.Core.Bool.{Bool, true, false, cond, _&&_}
 use Prim.Native.Nat.{ℕ, _+_}
 use lib.Dec.{leb, ltb}
+use Rattle.std.specs.declared.option.Option.{Option}
+use Rattle.std.specs.declared.option.Option.the-variants.{Some, None}
 use Rattle.watch.specs.Exactly.{Exactly}
 use Rattle.watch.specs.Letters.{letter-count}
 use Rattle.watch.specs.Runs.{Run, Over, Holds, later}
+use Rattle.watch.specs.Sizes.{sizes-of}
 use Rattle.watch.specs.Watchers.{Watching, most-states}
+use Rattle.watch.specs.declared.watcher.Sizes.{Sizes}
 use Rattle.piles.specs.Stubs.{stub}
 
 abbrev pub most-steps : ℕ
@@ -25,13 +29,18 @@ delayed w n = record {
   start = w .states;
   next = λ s a. cond (ltb a (letter-count (w .events)))
       (cond (ltb s (w .states)) (w .next s a)
-          (cond (ltb (s + 1) (w .states + n)) (s + 1) (cond (ltb s (w .states + n)) (w .start) (w .states))))
+      (cond (ltb (s + 1) (w .states + n)) (s + 1) (cond (ltb s (w .states + n)) (w .start) (w .states))))
       (w .states);
   shown = λ s. cond (ltb s (w .states)) (w .shown s) 0;
 }
 
 abbrev pub delay : Watching → ℕ → Watching
 delay w n = cond (fits-delay w n) (delayed w n) (stub w)
+
+-- The sizes below are at hand where the limits are kept, and nothing where they are not.
+abbrev pub Under : Watching → ℕ → Option Sizes → Type 0
+Under w n None = fits-delay w n ≡ false
+Under w n (Some sizes) = (fits-delay w n ≡ true) × (sizes ≡ sizes-of w)
 
 -- A term holds on a run over a delay exactly when it holds below on the run without its first n steps.
 -- Over a stub every term holds on every run.

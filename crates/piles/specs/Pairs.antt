@@ -3,10 +3,14 @@ use mathlib.Core.Path.{_≡_}
 use mathlib.Core.Bool.{Bool, true, false, cond, _&&_}
 use Prim.Native.Nat.{ℕ, _+_, _-_, _*_, _/_, _%_, _^_, _<_, _≤_}
 use lib.Dec.{eqb, leb, ltb}
+use Rattle.std.specs.declared.option.Option.{Option}
+use Rattle.std.specs.declared.option.Option.the-variants.{Some, None}
 use Rattle.watch.specs.Exactly.{Exactly}
 use Rattle.watch.specs.Letters.{letter-count}
 use Rattle.watch.specs.Runs.{Run, Over, Holds}
+use Rattle.watch.specs.Sizes.{sizes-of}
 use Rattle.watch.specs.Watchers.{Watching, most-states, most-marks}
+use Rattle.watch.specs.declared.watcher.Sizes.{Sizes}
 use Rattle.piles.specs.Stubs.{stub}
 
 -- The events are the same, and the numbers of states and of marks are within their limits.
@@ -30,6 +34,11 @@ paired v w = record {
 
 abbrev pub pair : Watching → Watching → Watching
 pair v w = cond (fits-pair v w) (paired v w) (stub v)
+
+-- The sizes of the two are at hand where the limits are kept, and nothing where they are not.
+abbrev pub Sides : Watching → Watching → Option (Sizes × Sizes) → Type 0
+Sides v w None = fits-pair v w ≡ false
+Sides v w (Some sizes) = (fits-pair v w ≡ true) × (sizes .0 ≡ sizes-of v) × (sizes .1 ≡ sizes-of w)
 
 -- A term of a pair holds on a run exactly when the first's term of that number holds on the same run or, above the
 -- first's marks, the second's term of that number less the first's marks. Over a stub every term holds on every run.

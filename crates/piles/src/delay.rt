@@ -1,13 +1,11 @@
 // The delay: a watcher over another one that lets the first steps pass unseen.
 ghost use mathlib.Core.Path.{_≡_};
-ghost use mathlib.Core.Bool.{true, false, _&&_};
-ghost use Prim.Native.Nat.{ℕ, _+_};
+ghost use mathlib.Core.Bool.{_&&_};
+ghost use Prim.Native.Nat.{_+_};
 ghost use lib.Dec.{leb};
-ghost use Rattle.std.specs.Options.{Cases as BySome};
-ghost use Rattle.watch.specs.Sizes.{sizes-of};
 ghost use Rattle.watch.specs.Watchers.{most-states};
 ghost use Rattle.piles.specs.Refusals.{Answers};
-ghost use Rattle.piles.specs.Delays.{delay, fits-delay, most-steps, Unseen};
+ghost use Rattle.piles.specs.Delays.{delay, fits-delay, most-steps, Under, Unseen};
 use crate::refusal::Refusal;
 use crate::stub::stub_sizes;
 use watch::MOST_STATES;
@@ -52,7 +50,7 @@ impl<W: Watcher> Delay<W> {
 
     // The sizes below, unless this delay is the stub.
     fn under(&self) -> Option<Sizes>
-        ensures { λ r. ⌜ BySome r (fits-delay (watching (now (self .entry) .below)) (now (self .entry) .steps) ≡ false) (λ sizes. (fits-delay (watching (now (self .entry) .below)) (now (self .entry) .steps) ≡ true) × (sizes ≡ sizes-of (watching (now (self .entry) .below)))) ⌝ }
+        ensures { λ r. ⌜ Under (watching (now (self .entry) .below)) (now (self .entry) .steps) r ⌝ }
     {
         let sizes = self.below.sizes();
         if keeps_limits(sizes.states, self.steps) {

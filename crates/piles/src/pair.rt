@@ -1,13 +1,11 @@
 // The pair: two watchers that start and step together.
 ghost use mathlib.Core.Path.{_≡_};
-ghost use mathlib.Core.Bool.{true, false, _&&_};
-ghost use Prim.Native.Nat.{ℕ, _+_, _*_, _/_, _%_, _^_, _<_, _≤_};
+ghost use mathlib.Core.Bool.{_&&_};
+ghost use Prim.Native.Nat.{_+_, _*_, _/_, _%_, _^_, _<_, _≤_};
 ghost use lib.Dec.{eqb, leb};
-ghost use Rattle.std.specs.Options.{Cases as BySome};
-ghost use Rattle.watch.specs.Sizes.{sizes-of};
 ghost use Rattle.watch.specs.Watchers.{most-states, most-marks};
 ghost use Rattle.piles.specs.Refusals.{Answers};
-ghost use Rattle.piles.specs.Pairs.{pair, fits-pair, Joined};
+ghost use Rattle.piles.specs.Pairs.{pair, fits-pair, Sides, Joined};
 use crate::refusal::Refusal;
 use crate::stub::stub_sizes;
 use watch::MOST_MARKS;
@@ -34,7 +32,7 @@ fn keeps_limits(first: Sizes, second: Sizes) -> bool
 // The two states that a pair's state number stands for.
 fn split(state: u16, seconds: u16) -> (u16, u16)
     requires { ⌜ 0 < seconds ⌝ }
-    ensures { λ r. ⌜ r ≡ (state / seconds, state % seconds) ⌝ }
+    ensures { λ r. ⌜ (r .0 ≡ state / seconds) × (r .1 ≡ state % seconds) ⌝ }
 {
     (state / seconds, state % seconds)
 }
@@ -81,7 +79,7 @@ impl<A: Watcher, B: Watcher> Pair<A, B> {
 
     // The sizes of the two, unless this pair is the stub.
     fn sides(&self) -> Option<(Sizes, Sizes)>
-        ensures { λ r. ⌜ BySome r (fits-pair (A·Watcher .watching (now (self .entry) .first)) (B·Watcher .watching (now (self .entry) .second)) ≡ false) (λ sizes. (fits-pair (A·Watcher .watching (now (self .entry) .first)) (B·Watcher .watching (now (self .entry) .second)) ≡ true) × (sizes .0 ≡ sizes-of (A·Watcher .watching (now (self .entry) .first))) × (sizes .1 ≡ sizes-of (B·Watcher .watching (now (self .entry) .second)))) ⌝ }
+        ensures { λ r. ⌜ Sides (A·Watcher .watching (now (self .entry) .first)) (B·Watcher .watching (now (self .entry) .second)) r ⌝ }
     {
         let first = self.first.sizes();
         let second = self.second.sizes();
@@ -111,7 +109,12 @@ pub impl<A: Watcher, B: Watcher> Watcher for Pair<A, B> as PairWatcher {
         let Some((first, second)) = self.sides() else {
             return 0;
         };
-        join(self.first.start(), self.second.start(), first.states, second.states)
+        join(
+            self.first.start(),
+            self.second.start(),
+            first.states,
+            second.states,
+        )
     }
 
     fn next(&self, state: u16, letter: u16) -> u16 {
@@ -119,20 +122,29 @@ pub impl<A: Watcher, B: Watcher> Watcher for Pair<A, B> as PairWatcher {
             return 0;
         };
         if state >= first.states * second.states || letter >= first.letters {
-            return join(self.first.start(), self.second.start(), first.states, second.states);
+            return self.start();
         }
         let (s, t) = split(state, second.states);
-        join(self.first.next(s, letter), self.second.next(t, letter), first.states, second.states)
+        join(
+            self.first.next(s, letter),
+            self.second.next(t, letter),
+            first.states,
+            second.states,
+        )
     }
 
     fn shown(&self, state: u16) -> MarkSet {
-        let Some((first, second)) = self.sides() else {
-            return MarkSet::EMPTY;
-        };
-        if state >= first.states * second.states {
-            return MarkSet::EMPTY;
+        match self.sides() {
+            Some((first, second)) if state < first.states * second.states => {
+                let (s, t) = split(state, second.states);
+                beside(
+                    self.first.shown(s),
+                    self.second.shown(t),
+                    first.marks,
+                    second.marks,
+                )
+            }
+            _ => MarkSet::EMPTY,
         }
-        let (s, t) = split(state, second.states);
-        beside(self.first.shown(s), self.second.shown(t), first.marks, second.marks)
     }
 }

@@ -41,7 +41,7 @@ within-and (suc n) x y small h =
 and-within : (x y : ℕ) → bitAnd x y ≡ x → Within x y
 and-within x y e j one =
     let bits : bitAnd (x / 2 ^ j % 2) (y / 2 ^ j % 2) ≡ 1 =
-        sym (and-mod (x / 2 ^ j) (y / 2 ^ j) 1) ∙ ap (λ (n : ℕ). n % 2) (sym (and-shr x y j) ∙ ap (λ (n : ℕ). n / 2 ^ j) e) ∙ one in
+    sym (and-mod (x / 2 ^ j) (y / 2 ^ j) 1) ∙ ap (λ (n : ℕ). n % 2) (sym (and-shr x y j) ∙ ap (λ (n : ℕ). n / 2 ^ j) e) ∙ one in
     omega (arith, and-le-r (x / 2 ^ j % 2) (y / 2 ^ j % 2), bits)
 
 pub subset-test : (x y : ℕ) → Decides (eqb (bitAnd x y) x) ((i : ℕ) → Has i x → Has i y)
@@ -56,6 +56,6 @@ pub letter-test : (w : Watching) (s a next set after : ℕ) → next ≡ w .next
 letter-test w s a next set after is-next is-set is-after inside =
     let there : after ≡ w .shown (w .next s a) = is-after ∙ ap (w .shown) is-next in
     let test : Decides (eqb (bitAnd set after) set) ((i : ℕ) → Has i (w .shown s) → Has i (w .shown (w .next s a))) =
-        subst (λ (x : ℕ). Decides (eqb (bitAnd set after) set) ((i : ℕ) → Has i x → Has i (w .shown (w .next s a)))) is-set
-        (subst (λ (y : ℕ). Decides (eqb (bitAnd set after) set) ((i : ℕ) → Has i set → Has i y)) there (subset-test set after)) in
+    subst (λ (x : ℕ). Decides (eqb (bitAnd set after) set) ((i : ℕ) → Has i x → Has i (w .shown (w .next s a)))) is-set
+    (subst (λ (y : ℕ). Decides (eqb (bitAnd set after) set) ((i : ℕ) → Has i set → Has i y)) there (subset-test set after)) in
     (λ e. (subst (λ (t : ℕ). t < w .states) is-next inside, test .0 e), λ h. test .1 (h .1))

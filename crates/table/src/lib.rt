@@ -8,5 +8,6 @@ mod sizes;
 mod table;
 
 pub use refusal::Refusal;
+pub use refusal::RefusalDisplay;
 pub use table::Table;
 pub use table::TableWatcher;

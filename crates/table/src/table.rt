@@ -12,6 +12,9 @@ use watch::MarkSet;
 use watch::Sizes;
 use watch::Watcher;
 
+// The state that a drawn table starts in.
+const START: u16 = 0;
+
 // The list as it came, with its sizes at hand. The blank table has an empty list.
 #[derive(Drop)]
 pub struct Table {
@@ -40,7 +43,7 @@ pub impl Watcher for Table as TableWatcher {
     }
 
     fn start(&self) -> u16 {
-        0
+        START
     }
 
     fn next(&self, state: u16, letter: u16) -> u16 {

@@ -52,9 +52,9 @@ module _ (w : Watching) (letters : List ℕ) (before after : List Passed) (n sta
   step t m went shows in-letters in-after walk =
       let put : Passed = record { state = t; shown = m } in
       let there : (r : Run) → Continues letters r → t ≡ passed w r (suc n) =
-          λ r h. went ∙ (λ i. w .next (walk .here r h i) (sym (h n in-letters) i)) in
+      λ r h. went ∙ (λ i. w .next (walk .here r h i) (sym (h n in-letters) i)) in
       let is : (r : Run) → Continues letters r → put ≡ stand w r (suc n) =
-          λ r h. (λ i. record { state = there r h i; shown = record { bits = (shows ∙ ap (w .shown) (there r h)) i } }) in
+      λ r h. (λ i. record { state = there r h i; shown = record { bits = (shows ∙ ap (w .shown) (there r h)) i } }) in
       record {
         here = λ r h. there r h ∙ ap (λ (k : ℕ). passed w r k) (sym (add-one n));
         stands = λ r h d k lt.
@@ -83,7 +83,7 @@ module _ (w : Watching) (letters : List ℕ) (before after : List Passed) (n sta
         marks = λ r h i.
             let shown-is : m .bits ≡ w .shown (passed w r n) = shows ∙ ap (w .shown) (walk .here r h) in
             let runs : (k : ℕ) → k < n → r k < letter-count (w .events) =
-                λ k lt. subst (λ (a : ℕ). a < letter-count (w .events)) (sym (h k (omega arith))) (within k (omega arith)) in
+            λ k lt. subst (λ (a : ℕ). a < letter-count (w .events)) (sym (h k (omega arith))) (within k (omega arith)) in
             record {
               then = λ has. (n, omega arith, subst (Has i) shown-is has);
               back = λ some.

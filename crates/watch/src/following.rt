@@ -5,9 +5,9 @@ ghost use Prim.Native.Nat.{ℕ, _<_};
 ghost use Rattle.watch.specs.Runs.{Run, Holds};
 ghost use Rattle.watch.specs.Following.{Stray, Follows};
 use crate::marks::MarkSet;
-use crate::watcher::Watcher;
 use crate::marks::MarkSetDebug;
 use crate::marks::MarkSetPartialEq;
+use crate::watcher::Watcher;
 
 // Where a watcher stands after a step: its state, and the marks that the state shows.
 #[derive(Clone, Copy, PartialEq, Eq, Debug)]

@@ -12,6 +12,7 @@ pub use letters::MOST_EVENTS;
 pub use letters::letter_count;
 pub use marks::MOST_MARKS;
 pub use marks::MarkSet;
+pub use marks::MarkSetDisplay;
 pub use watcher::MOST_STATES;
 pub use watcher::Sizes;
 pub use watcher::Watcher;

@@ -12,6 +12,7 @@ returns-then-not-lawful c =
 pub returns : need.returns
 returns c =
     let words = c .args .words .now in
-    let three : 3 ≤ length (c .args .words .now) = search needs in
-    (head-lawful words three _ _ _ (c .within .ensures) (c .within-2 .ensures) (c .within-3 .ensures) (c .if-not-lawful .left),
-     head-sizes words three _ _ _ (c .within .ensures) (c .within-2 .ensures) (c .within-3 .ensures) (c .in-Some .letters) (c .in-Some .ensures tt))
+    let three : 3 ≤ length (c .args .words .now) = search needs in (
+      head-lawful words three _ _ _ (c .within .ensures) (c .within-2 .ensures) (c .within-3 .ensures) (c .if-not-lawful .left),
+      head-sizes words three _ _ _ (c .within .ensures) (c .within-2 .ensures) (c .within-3 .ensures) (c .in-Some .letters) (c .in-Some .ensures tt),
+    )

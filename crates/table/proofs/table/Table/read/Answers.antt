@@ -18,7 +18,7 @@ pub returns-then-not-is-lawful : need.returns-then-not-is-lawful
 returns-then-not-is-lawful c =
     let is = c .as-slice-list .ensures .value in
     let not-lawful : Lawful (drawn (c .as-slice-list .result .now)) → ⊥ =
-        λ law. let e = c .is-lawful .ensures .1 (each-lawful (c .as-slice-list .result .now) law) in let z : _≡_ {A = ℕ} 0 1 = cc in omega arith in
+    λ law. let e = c .is-lawful .ensures .1 (each-lawful (c .as-slice-list .result .now) law) in let z : _≡_ {A = ℕ} 0 1 = cc in omega arith in
     ((subst Sized is (c .in-Some .ensures tt .0), subst (λ (words : List ℕ). Lawful (drawn words) → ⊥) is not-lawful), refl)
 
 pub returns : need.returns
