@@ -9,13 +9,17 @@ mod record;
 
 use input::letters_of;
 use input::words_of;
+use record::Fault;
 use record::record;
+use std::alloc::AllocError;
+use std::alloc::Global;
 use std::error::AnyError;
 use std::fs;
 use std::io;
 use table::RefusalDisplay;
 use table::Table;
 use table::TableWatcher;
+use watch::Watcher;
 
 fn run(rt: &LibcRuntime) -> Result<(), AnyError> {
     let heap = rt.alloc();
@@ -28,11 +32,22 @@ fn run(rt: &LibcRuntime) -> Result<(), AnyError> {
     let words = words_of(heap, drawn.as_str())?;
     let letters = letters_of(heap, evening.as_str())?;
     let mut table = Table::blank(heap);
-    match table.read(words) {
-        Ok(()) => rt.print(record(heap, &table, letters.as_slice())?)?,
-        Err(refusal) => rt.println(refusal)?,
+    if let Err(refusal) = table.read(words) {
+        rt.println(refusal)?;
+        return Ok(());
+    }
+    match record(heap, &table, letters.as_slice()) {
+        Ok(text) => rt.print(text)?,
+        Err(Fault::Letter(place)) => return Err(stray_letter(heap, place, table.sizes().letters)?.into()),
+        Err(Fault::Memory) => return Err("there is not enough memory for the record".into()),
     }
     Ok(())
+}
+
+// What is said of a letter beyond the alphabet.
+fn stray_letter(heap: Global, place: usize, count: u16) -> Result<String, AllocError> {
+    let line = place.saturating_add(1);
+    format!(heap, "standard input: line {line} is beyond the alphabet of {count} letters")
 }
 
 fn main(rt: LibcRuntime) -> Result<(), AnyError> {

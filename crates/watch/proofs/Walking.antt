@@ -80,6 +80,7 @@ module _ (w : Watching) (letters : List ℕ) (before after : List Passed) (n sta
       record {
         stands = λ r h d k lt. walk .stands r h d k (omega arith);
         rest = subst (λ (k : ℕ). drop k after ≡ drop k before) all (walk .rest);
+        last = λ r h. shows ∙ ap (w .shown) (walk .here r h ∙ ap (λ (k : ℕ). passed w r k) all);
         marks = λ r h i.
             let shown-is : m .bits ≡ w .shown (passed w r n) = shows ∙ ap (w .shown) (walk .here r h) in
             let runs : (k : ℕ) → k < n → r k < letter-count (w .events) =

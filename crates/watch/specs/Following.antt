@@ -34,10 +34,12 @@ abbrev pub stand : Watching → Run → ℕ → Passed
 stand w r k = record { state = passed w r k; shown = record { bits = w .shown (passed w r k) } }
 
 -- What was written is where the watcher stands after each step of every run that begins with the letters;
--- what is behind stays; and the marks that were answered are exactly those that appeared.
+-- what is behind stays; and the marks that were answered are those of the last state passed, and exactly those that
+-- appeared on the way.
 pub record Followed (w : Watching) (letters : List ℕ) (before after : List Passed) (appeared : MarkSet) : Type 0 where
   pub stands : (r : Run) → Continues letters r → (d : Passed) (k : ℕ) → k < min (length letters) (length before) → getD after k d ≡ stand w r (suc k)
   pub rest : drop (min (length letters) (length before)) after ≡ drop (min (length letters) (length before)) before
+  pub last : (r : Run) → Continues letters r → appeared .bits ≡ w .shown (passed w r (min (length letters) (length before)))
   pub marks : (r : Run) → Continues letters r → (i : ℕ) → Exactly (Has i (appeared .bits)) (Appears-by w r (min (length letters) (length before)) i)
 
 -- The answer to following the letters: the first letter beyond the alphabet is refused and nothing is written;

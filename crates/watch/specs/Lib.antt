@@ -5,3 +5,4 @@ pub mod Watchers
 pub mod Sizes
 pub mod Runs
 pub mod Following
+pub mod MarkTexts

@@ -17,7 +17,7 @@ pub struct Passed {
 }
 
 // The place of the first letter that is beyond the alphabet.
-fn stray(letters: &[u16], count: u16) -> Option<usize>
+pub fn stray(letters: &[u16], count: u16) -> Option<usize>
     ensures { λ r. ⌜ Stray count (now (letters .entry)) r ⌝ }
 {
     for (place, letter) in letters.iter().enumerate() {

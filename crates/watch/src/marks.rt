@@ -2,8 +2,14 @@
 //
 // A mark is a number from 1 on that a watcher shows once a term can no longer hold.
 ghost use mathlib.Core.Path.{_≡_};
+ghost use mathlib.Core.List.{_++_};
+ghost use Rattle.std.specs.Of.String.{string-bytes};
+ghost use Rattle.std.specs.Vec.{made};
+ghost use Rattle.std.specs.Written.{decimal};
 ghost use Rattle.watch.specs.Marks.{has};
-use std::fmt;
+ghost use Rattle.watch.specs.MarkTexts.{apart, «marks-text»};
+use std::alloc::AllocError;
+use std::alloc::Global;
 
 // The most marks that a watcher can have.
 pub const MOST_MARKS: u8 = 8;
@@ -28,22 +34,31 @@ impl MarkSet {
     }
 }
 
-// The marks by their numbers with spaces between, or `none`.
-pub impl fmt::Display for MarkSet as MarkSetDisplay {
-    fn fmt<W: fmt::Write>(&self, f: &mut fmt::Formatter<W>) -> fmt::Result {
-        if self.bits == 0 {
-            return write!(f, "none");
-        }
-        let mut parted = false;
+// Adds the mark's number to the text, behind a space where the text has one already.
+fn add_mark(heap: Global, text: &mut String, mark: u8) -> Result<(), AllocError>
+    ensures { λ r. ⌜ made r (λ _. string-bytes (now (text .exit)) ≡ apart (string-bytes (now (text .entry))) ++ decimal mark) ⌝ }
+{
+    let number = format!(heap, "{mark}")?;
+    if !text.is_empty() {
+        text.push_str(" ")?;
+    }
+    text.push_str(number.as_str())
+}
+
+impl MarkSet {
+    // The numbers of the marks in rising order with a space between two, or `none`.
+    pub fn text(self, heap: Global) -> Result<String, AllocError>
+        ensures { λ r. ⌜ made r (λ text. string-bytes text ≡ marks-text (self .bits)) ⌝ }
+    {
+        let mut text = String::new(heap);
         for mark in 1..=MOST_MARKS {
             if self.has(mark) {
-                if parted {
-                    write!(f, " ")?;
-                }
-                write!(f, "{mark}")?;
-                parted = true;
+                add_mark(heap, &mut text, mark)?;
             }
         }
-        Ok(())
+        if text.is_empty() {
+            text.push_str("none")?;
+        }
+        Ok(text)
     }
 }
