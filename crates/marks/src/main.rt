@@ -38,7 +38,11 @@ fn run(rt: &LibcRuntime) -> Result<(), AnyError> {
     }
     match record(heap, &table, letters.as_slice()) {
         Ok(text) => rt.print(text)?,
-        Err(Fault::Letter(place)) => return Err(stray_letter(heap, place, table.sizes().letters)?.into()),
+        Err(Fault::Letter(place)) => return Err(stray_letter(
+            heap,
+            place,
+            table.sizes().letters,
+        )?.into()),
         Err(Fault::Memory) => return Err("there is not enough memory for the record".into()),
     }
     Ok(())
@@ -47,7 +51,10 @@ fn run(rt: &LibcRuntime) -> Result<(), AnyError> {
 // What is said of a letter beyond the alphabet.
 fn stray_letter(heap: Global, place: usize, count: u16) -> Result<String, AllocError> {
     let line = place.saturating_add(1);
-    format!(heap, "standard input: line {line} is beyond the alphabet of {count} letters")
+    format!(
+        heap,
+        "standard input: line {line} is beyond the alphabet of {count} letters"
+    )
 }
 
 fn main(rt: LibcRuntime) -> Result<(), AnyError> {

@@ -1,5 +1,6 @@
 // The record of an evening as text.
 ghost use mathlib.Core.Path.{_≡_};
+ghost use mathlib.Core.List.{_++_};
 ghost use lib.ListN.{length};
 ghost use Rattle.std.specs.Of.String.{string-bytes};
 ghost use Rattle.std.specs.Vec.{made};
@@ -57,7 +58,36 @@ fn last_line(heap: Global, appeared: MarkSet) -> Result<String, AllocError>
     format!(heap, "appeared: {marks}\n")
 }
 
-// A line for each step, with the state after it and the marks it shows; then the marks that appeared.
+// The whole text: a line for each step, and then the marks that appeared.
+fn text_of(heap: Global, stands: &[Passed], appeared: MarkSet) -> Result<String, AllocError>
+    ensures { λ r. ⌜ made r (λ text. string-bytes text ≡ list-lines (now (stands .entry)) (length (now (stands .entry))) ++ last-line (appeared .bits)) ⌝ }
+{
+    let mut text = step_lines(heap, stands)?;
+    let last = last_line(heap, appeared)?;
+    text.push_str(last.as_str())?;
+    Ok(text)
+}
+
+// Follows the watcher, with room for each step, and writes the text.
+fn followed<W: Watcher>(
+    heap: Global,
+    watcher: &W,
+    letters: &[u16],
+    stands: &mut [Passed],
+) -> Result<String, Fault>
+    requires { ⌜ length (now stands) ≡ length (now letters) ⌝ }
+    ensures { λ r. ⌜ Records (watching (now (watcher .entry))) (now (letters .entry)) r ⌝ }
+{
+    match follow(watcher, letters, stands) {
+        Err(place) => Err(Fault::Letter(place)),
+        Ok(appeared) => match text_of(heap, stands, appeared) {
+            Err(_) => Err(Fault::Memory),
+            Ok(text) => Ok(text),
+        },
+    }
+}
+
+// The record of the evening.
 pub fn record<W: Watcher>(heap: Global, watcher: &W, letters: &[u16]) -> Result<String, Fault>
     ensures { λ r. ⌜ Records (watching (now (watcher .entry))) (now (letters .entry)) r ⌝ }
 {
@@ -69,11 +99,5 @@ pub fn record<W: Watcher>(heap: Global, watcher: &W, letters: &[u16]) -> Result<
         shown: MarkSet::EMPTY,
     };
     let mut stands = vec![in heap; blank; letters.len()]?;
-    let appeared = match follow(watcher, letters, stands.as_mut_slice()) {
-        Ok(appeared) => appeared,
-        Err(place) => return Err(Fault::Letter(place)),
-    };
-    let mut text = step_lines(heap, stands.as_slice())?;
-    text.push_str(last_line(heap, appeared)?.as_str())?;
-    Ok(text)
+    followed(heap, watcher, letters, stands.as_mut_slice())
 }
