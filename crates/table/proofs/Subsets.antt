@@ -3,7 +3,6 @@ use mathlib.Core.Path.{_≡_, refl, sym, _∙_, ap, subst}
 use mathlib.Core.Bool.{Bool, true, false}
 use mathlib.Core.Logic.{⊎-elim}
 use Prim.Native.Nat.{ℕ, zero, suc, _+_, _*_, _/_, _%_, _^_, _<_, _≤_, min}
-use native.Mathlib.Nat.{div-div-eq-div-mul, div-one, pow-suc, mul-comm}
 use native.Mathlib.Omega.{arith}
 use lib.Bits.{bitAnd, and-step}
 use lib.Dec.{eqb}
@@ -12,20 +11,8 @@ use Rattle.std.proofs.shelf.Bits.{and-shr, and-mod, and-le-r, div-add-mod'}
 use Rattle.std.proofs.shelf.Tests.{eqb-true, eq-eqb, cases-eq}
 use Rattle.watch.specs.Marks.{Has}
 use Rattle.watch.specs.Watchers.{Watching}
+use Rattle.watch.proofs.Subsets.{Within, half-within, low-within}
 use Rattle.table.specs.Drawings.{LetterLawful}
-
--- Every bit of x is a bit of y.
-abbrev Within : ℕ → ℕ → Type 0
-Within x y = (j : ℕ) → (x / (2 ^ j)) % 2 ≡ 1 → (y / (2 ^ j)) % 2 ≡ 1
-
--- Bit j of the half is bit j + 1.
-half-bit : (x j : ℕ) → (x / 2) / (2 ^ j) ≡ x / (2 ^ suc j)
-half-bit x j = div-div-eq-div-mul x 2 (2 ^ j) ∙ ap (λ (n : ℕ). x / n) (mul-comm 2 (2 ^ j) ∙ sym (pow-suc 2 j))
-
-half-within : (x y : ℕ) → Within x y → Within (x / 2) (y / 2)
-half-within x y h j e =
-    let to : (y / (2 ^ suc j)) % 2 ≡ 1 = h (suc j) (ap (λ (n : ℕ). n % 2) (sym (half-bit x j)) ∙ e) in
-    ap (λ (n : ℕ). n % 2) (half-bit y j) ∙ to
 
 -- The number n bounds the number of bits that are left.
 within-and : (n x y : ℕ) → x ≤ n → Within x y → bitAnd x y ≡ x
@@ -34,8 +21,7 @@ within-and zero x y small h =
     ap (λ (z : ℕ). bitAnd z y) none ∙ sym none
 within-and (suc n) x y small h =
     let halves : bitAnd (x / 2) (y / 2) ≡ x / 2 = within-and n (x / 2) (y / 2) (omega arith) (half-within x y h) in
-    let low : x % 2 ≡ 1 → y % 2 ≡ 1 = λ e. ap (λ (n : ℕ). n % 2) (sym (div-one y)) ∙ h 0 (ap (λ (n : ℕ). n % 2) (div-one x) ∙ e) in
-    let least : min (x % 2) (y % 2) ≡ x % 2 = ⊎-elim (λ e. omega (arith, low e)) (λ ne. omega (arith, ne)) (cases-eq (x % 2) 1) in
+    let least : min (x % 2) (y % 2) ≡ x % 2 = ⊎-elim (λ e. omega (arith, low-within x y h e)) (λ ne. omega (arith, ne)) (cases-eq (x % 2) 1) in
     and-step x y ∙ (λ i. halves i * 2 + least i) ∙ div-add-mod' x 2
 
 and-within : (x y : ℕ) → bitAnd x y ≡ x → Within x y

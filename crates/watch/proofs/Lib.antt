@@ -2,3 +2,4 @@ pub mod Bits
 pub mod Walking
 pub mod Uniqueness
 mod MarkTexts
+pub mod Subsets

@@ -1,0 +1,4 @@
+mod Noting
+mod Resting
+mod Words
+mod Agreeing

@@ -1,0 +1,12 @@
+pub mod Ways
+pub mod Resting
+pub mod Basics
+pub mod Sharing
+pub mod Learning
+pub mod Advancing
+pub mod Pushing
+pub mod Joining
+pub mod Leaving
+pub mod Noting
+pub mod Stepping
+pub mod Beginning

@@ -1,0 +1,5 @@
+pub mod Words
+pub mod Lines
+pub mod Clean
+pub mod Numbers
+pub mod inner
