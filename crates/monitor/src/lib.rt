@@ -13,3 +13,5 @@ pub use calls::Call;
 pub use monitor::Monitor;
 pub use refusal::Refusal;
 pub use word::Word;
+pub use word::WordDisplay;
+pub use word::WordPartialEq;

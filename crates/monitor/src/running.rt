@@ -105,11 +105,9 @@ impl Running {
         if self.closed >= MOST_CLOSED {
             return Err(Refusal::Steps);
         }
-        *self = Running {
-            state: watcher.next(self.state, self.letter()),
-            closed: self.closed + 1,
-            digits: [0; 5],
-        };
+        self.state = watcher.next(self.state, self.letter());
+        self.closed += 1;
+        self.digits = [0; 5];
         Ok(())
     }
 

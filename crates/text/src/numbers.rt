@@ -1,4 +1,4 @@
-// Numbers as they are written: 1 to 6 digits and, but for 0 itself, no leading zero.
+// Numbers as they are written: at most six digits, of which the first is 0 only in 0 itself.
 ghost use mathlib.Core.Path.{_≡_};
 ghost use mathlib.Core.Bool.{true};
 ghost use Prim.Native.Nat.{ℕ, _<_};
