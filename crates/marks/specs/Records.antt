@@ -11,8 +11,10 @@ use Rattle.std.specs.declared.option.Option.the-variants.{Some, None}
 use Rattle.std.specs.declared.result.Result.{Result}
 use Rattle.std.specs.declared.result.Result.the-variants.{Ok, Err}
 use Rattle.std.specs.declared.string.String.{String}
-use Rattle.watch.specs.Following.{Stray, stand}
+use Rattle.watch.specs.Exactly.{Exactly}
+use Rattle.watch.specs.Following.{Stray, Appears-by, stand}
 use Rattle.watch.specs.Letters.{letter-count}
+use Rattle.watch.specs.Marks.{Has}
 use Rattle.watch.specs.MarkTexts.{marks-text}
 use Rattle.watch.specs.Runs.{Run, Continues, passed}
 use Rattle.watch.specs.Watchers.{Watching}
@@ -38,11 +40,14 @@ run-lines w r (suc n) = run-lines w r n ++ step-line n (stand w r (suc n))
 abbrev pub run-record : Watching → Run → ℕ → List ℕ
 run-record w r n = run-lines w r n ++ last-line (w .shown (passed w r n))
 
--- The text is the record of every run that begins with the letters. A letter beyond the alphabet is refused at its
+-- The text is the record of every run that begins with the letters, and the marks in its last line are exactly those
+-- that appeared in these steps. A letter beyond the alphabet is refused at its
 -- place, and want of memory is said only where there is none.
 abbrev pub Records : Watching → List ℕ → Result (String Global) Fault → Type 0
 Records w letters (Ok text) =
-    Stray (letter-count (w .events)) letters None × ((r : Run) → Continues letters r → string-bytes text ≡ run-record w r (length letters))
+    Stray (letter-count (w .events)) letters None
+    × ((r : Run) → Continues letters r → string-bytes text ≡ run-record w r (length letters))
+    × ((r : Run) → Continues letters r → (i : ℕ) → Exactly (Has i (w .shown (passed w r (length letters)))) (Appears-by w r (length letters) i))
 Records w letters (Err (Letter place)) = Stray (letter-count (w .events)) letters (Some place)
 Records w letters (Err Memory) = Stray (letter-count (w .events)) letters None
 

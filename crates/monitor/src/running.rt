@@ -105,7 +105,8 @@ impl Running {
         if self.closed >= MOST_CLOSED {
             return Err(Refusal::Steps);
         }
-        self.state = watcher.next(self.state, self.letter());
+        let next = watcher.next(self.state, self.letter());
+        self.state = next;
         self.closed += 1;
         self.digits = [0; 5];
         Ok(())

@@ -3,6 +3,7 @@ ghost use mathlib.Core.Path.{_≡_};
 ghost use mathlib.Core.Bool.{_&&_};
 ghost use Prim.Native.Nat.{_+_};
 ghost use lib.Dec.{leb};
+ghost use Rattle.watch.specs.Following.{Follows};
 ghost use Rattle.watch.specs.Watchers.{most-states};
 ghost use Rattle.piles.specs.Refusals.{Answers};
 ghost use Rattle.piles.specs.Delays.{delay, fits-delay, most-steps, Under, Unseen};
@@ -10,8 +11,10 @@ use crate::refusal::Refusal;
 use crate::stub::stub_sizes;
 use watch::MOST_STATES;
 use watch::MarkSet;
+use watch::Passed;
 use watch::Sizes;
 use watch::Watcher;
+use watch::follow;
 
 // The most steps that a delay can let pass.
 const MOST_STEPS: u16 = 1000;
@@ -48,6 +51,13 @@ impl<W: Watcher> Delay<W> {
         Delay { below, steps }
     }
 
+    // Follows the delay along the letters, as `watch::follow` does. What is followed is the delay of the watcher below.
+    pub fn follow(&self, letters: &[u16], stands: &mut [Passed]) -> Result<MarkSet, usize>
+        ensures { λ r. ⌜ Follows (delay (watching (now (self .entry) .below)) (now (self .entry) .steps)) (now (letters .entry)) (now (stands .entry)) (now (stands .exit)) r ⌝ }
+    {
+        follow(self, letters, stands)
+    }
+
     // The sizes below, unless this delay is the stub.
     fn under(&self) -> Option<Sizes>
         ensures { λ r. ⌜ Under (watching (now (self .entry) .below)) (now (self .entry) .steps) r ⌝ }
@@ -65,12 +75,13 @@ pub impl<W: Watcher> Watcher for Delay<W> as DelayWatcher {
     ghost watching = { λ d. delay (W·Watcher .watching (d .below)) (d .steps) };
 
     fn sizes(&self) -> Sizes {
-        match self.under() {
-            Some(below) => Sizes {
-                states: below.states + self.steps,
-                ..below
-            },
-            None => stub_sizes(self.below.sizes()),
+        let below = self.below.sizes();
+        if !keeps_limits(below.states, self.steps) {
+            return stub_sizes(below);
+        }
+        Sizes {
+            states: below.states + self.steps,
+            ..below
         }
     }
 

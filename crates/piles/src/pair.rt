@@ -3,6 +3,7 @@ ghost use mathlib.Core.Path.{_≡_};
 ghost use mathlib.Core.Bool.{_&&_};
 ghost use Prim.Native.Nat.{_+_, _*_, _/_, _%_, _^_, _<_, _≤_};
 ghost use lib.Dec.{eqb, leb};
+ghost use Rattle.watch.specs.Following.{Follows};
 ghost use Rattle.watch.specs.Watchers.{most-states, most-marks};
 ghost use Rattle.piles.specs.Refusals.{Answers};
 ghost use Rattle.piles.specs.Pairs.{pair, fits-pair, Sides, Joined};
@@ -11,8 +12,10 @@ use crate::stub::stub_sizes;
 use watch::MOST_MARKS;
 use watch::MOST_STATES;
 use watch::MarkSet;
+use watch::Passed;
 use watch::Sizes;
 use watch::Watcher;
+use watch::follow;
 
 #[derive(Drop)]
 pub struct Pair<A, B> {
@@ -77,6 +80,13 @@ impl<A: Watcher, B: Watcher> Pair<A, B> {
         Pair { first, second }
     }
 
+    // Follows the pair along the letters, as `watch::follow` does. What is followed is the pair of the two watchers.
+    pub fn follow(&self, letters: &[u16], stands: &mut [Passed]) -> Result<MarkSet, usize>
+        ensures { λ r. ⌜ Follows (pair (A·Watcher .watching (now (self .entry) .first)) (B·Watcher .watching (now (self .entry) .second))) (now (letters .entry)) (now (stands .entry)) (now (stands .exit)) r ⌝ }
+    {
+        follow(self, letters, stands)
+    }
+
     // The sizes of the two, unless this pair is the stub.
     fn sides(&self) -> Option<(Sizes, Sizes)>
         ensures { λ r. ⌜ Sides (A·Watcher .watching (now (self .entry) .first)) (B·Watcher .watching (now (self .entry) .second)) r ⌝ }
@@ -95,13 +105,15 @@ pub impl<A: Watcher, B: Watcher> Watcher for Pair<A, B> as PairWatcher {
     ghost watching = { λ p. pair (A·Watcher .watching (p .first)) (B·Watcher .watching (p .second)) };
 
     fn sizes(&self) -> Sizes {
-        match self.sides() {
-            Some((first, second)) => Sizes {
-                states: first.states * second.states,
-                marks: first.marks + second.marks,
-                ..first
-            },
-            None => stub_sizes(self.first.sizes()),
+        let first = self.first.sizes();
+        let second = self.second.sizes();
+        if !keeps_limits(first, second) {
+            return stub_sizes(first);
+        }
+        Sizes {
+            states: first.states * second.states,
+            marks: first.marks + second.marks,
+            ..first
         }
     }
 

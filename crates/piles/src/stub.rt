@@ -6,7 +6,7 @@ ghost use Rattle.piles.specs.Stubs.{stub};
 use watch::Sizes;
 
 // One state and one mark, and the events of the watcher below.
-pub fn stub_sizes(below: Sizes) -> Sizes
+pub(crate) fn stub_sizes(below: Sizes) -> Sizes
     ensures { λ r. ⌜ ((w : Watching) → below ≡ sizes-of w → r ≡ sizes-of (stub w)) ⌝ }
 {
     Sizes {

@@ -33,7 +33,7 @@ fn state_is_lawful(drawing: Drawing<'_>, state: u16) -> bool
 }
 
 // Whether each state is lawful.
-pub fn is_lawful(drawing: Drawing<'_>) -> bool
+pub(crate) fn is_lawful(drawing: Drawing<'_>) -> bool
     requires { ⌜ drawing .sizes .marks ≤ most-marks ⌝ }
     ensures { λ r. ⌜ Decides r ((s : ℕ) → s < drawn (now (drawing .entry .words)) .states → StateLawful (drawn (now (drawing .entry .words))) s) ⌝ }
 {

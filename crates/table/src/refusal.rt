@@ -1,6 +1,7 @@
 // Why a list is not taken as a table.
 ghost use mathlib.Core.Path.{_≡_};
-ghost use Rattle.table.specs.Refusals.{«refusal-number»};
+ghost use Rattle.std.specs.declared.option.Option.the-variants.{Some};
+ghost use Rattle.table.specs.Refusals.{«refusal-number», «refusal-text»};
 use std::fmt;
 
 #[derive(Clone, Copy, PartialEq, Eq, Debug)]
@@ -19,15 +20,16 @@ impl Refusal {
     }
 }
 
-// The refusal as a sentence.
+// The refusal as a line, without its end.
 pub impl fmt::Display for Refusal as RefusalDisplay {
+    ghost shown = { λ refusal. Some (refusal-text refusal) };
+
     fn fmt<W: fmt::Write>(&self, f: &mut fmt::Formatter<W>) -> fmt::Result {
-        let number = self.number();
-        let why = match self {
-            Refusal::Sizes =>
-                "the table's sizes are not lawful, or its list has another length than they say",
-            Refusal::Laws => "the table does not show what a watcher must",
-        };
-        write!(f, "refused {number}: {why}")
+        match self {
+            Refusal::Sizes => f.write_str(
+                "refused 30: the sizes are not lawful, or the list has another length",
+            ),
+            Refusal::Laws => f.write_str("refused 31: the table does not show what a watcher must"),
+        }
     }
 }

@@ -45,7 +45,7 @@ fn head(words: &[u16]) -> Option<Sizes>
 }
 
 // The sizes of the list, where they are lawful and the list has exactly the length that they say.
-pub fn sizes_of(words: &[u16]) -> Option<Sizes>
+pub(crate) fn sizes_of(words: &[u16]) -> Option<Sizes>
     ensures { λ r. ⌜ BySome r (Sized (now (words .entry)) → ⊥) (λ sizes. Sized (now (words .entry)) × (sizes ≡ sizes-of (drawn (now (words .entry))))) ⌝ }
 {
     let Some(sizes) = head(words) else {

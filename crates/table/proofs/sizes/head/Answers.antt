@@ -14,5 +14,5 @@ returns c =
     let words = c .args .words .now in
     let three : 3 ≤ length (c .args .words .now) = search needs in (
       head-lawful words three _ _ _ (c .within .ensures) (c .within-2 .ensures) (c .within-3 .ensures) (c .if-not-lawful .left),
-      head-sizes words three _ _ _ (c .within .ensures) (c .within-2 .ensures) (c .within-3 .ensures) (c .in-Some .letters) (c .in-Some .ensures tt),
+      head-sizes words three _ _ _ (c .within .ensures) (c .within-2 .ensures) (c .within-3 .ensures) (c .in-Some .letters) (c .in-Some .ensures tt .1),
     )

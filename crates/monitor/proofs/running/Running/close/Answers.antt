@@ -11,5 +11,5 @@ returns g c =
     let law = g .W·Watcher·met .lawful (c .args .watcher .now) in
     record {
       unmoved = λ e. absurd (both-ways true e refl);
-      right = λ plain x. takes-close w law plain (c .args .self .now) x (omega arith) (c .next-self .result) (c .letter .result) (c .letter .ensures) (c .next-self .ensures);
+      right = λ plain x. takes-close w law plain (c .args .self .now) x (omega arith) (c .next-next .result) (c .letter .result) (c .letter .ensures) (c .next-next .ensures);
     }
