@@ -5,11 +5,9 @@ use monitor::Refusal;
 use monitor::Word;
 use std::error::AnyError;
 use std::time::Instant;
+use watch::DIGITS;
+use watch::MOST_EVENTS;
 use watch::Watcher;
-
-const DIGITS: u32 = 3;
-
-const LETTERS: u32 = 243;
 
 // Over two tables of 100 states the word changes late in a million steps.
 const SEED: u32 = 12;
@@ -28,9 +26,9 @@ fn stirred(seed: u32) -> u32 {
 }
 
 // Notes the events of the letter, whose digits they are, and closes the step.
-fn close<W: Watcher>(monitor: &mut Monitor<W>, letter: u32) -> Result<(), Refusal> {
+fn close<W: Watcher>(monitor: &mut Monitor<W>, letter: u16) -> Result<(), Refusal> {
     let mut rest = letter;
-    for event in 0..5u8 {
+    for event in 0..MOST_EVENTS {
         let kind = (rest % DIGITS) as u8;
         rest /= DIGITS;
         if kind != 0 {
@@ -46,13 +44,14 @@ pub fn time_closings<W: Watcher + Drop>(
     watcher: W,
     times: u32,
 ) -> Result<Closed, AnyError> {
+    let letters = u32::from(watcher.sizes().letters).max(1);
     let mut monitor = Monitor::open(watcher, Expression::blank());
     let mut open = 0u32;
     let mut seed = SEED;
     let begun = Instant::now(rt)?;
     for _ in 0..times {
         seed = stirred(seed);
-        if close(&mut monitor, (seed >> 16) % LETTERS).is_err() {
+        if close(&mut monitor, ((seed >> 16) % letters) as u16).is_err() {
             return Err("a note or a closing was refused".into());
         }
         if let (Word::Open, _) = monitor.verdict() {
