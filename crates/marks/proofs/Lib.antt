@@ -1,1 +1,4 @@
 mod Lines
+mod Spelling
+mod Closing
+mod Telling

@@ -1,1 +1,4 @@
 pub mod Records
+pub mod WordTexts
+pub mod Evenings
+pub mod inner

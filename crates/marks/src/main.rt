@@ -5,16 +5,16 @@
 // the table follow. A list that is no table is refused by its number. Whatever else is wrong with the input is said
 // on standard error, and then nothing is printed.
 
+mod evening;
 mod input;
 mod record;
 mod words;
 
+use evening::whole_text;
 use expression::Expression;
 use input::letters_of;
 use input::words_of;
-use monitor::Monitor;
 use record::Fault;
-use record::record;
 use std::alloc::AllocError;
 use std::alloc::Global;
 use std::error::AnyError;
@@ -24,7 +24,6 @@ use table::RefusalDisplay;
 use table::Table;
 use table::TableWatcher;
 use watch::Watcher;
-use words::words;
 
 // What stands in a file, which has to be there and to be text.
 fn text_in(rt: &LibcRuntime, name: &str) -> Result<String, AnyError> {
@@ -61,28 +60,19 @@ fn stray_letter(heap: Global, place: usize, count: u16) -> Result<String, AllocE
     )
 }
 
-// The record of the table over the letters and, where there is an expression, the words.
+// The text of the evening, or what is said where there is none.
 fn report(
     heap: Global,
     table: Table,
     expression: Option<Expression>,
     letters: &[u16],
 ) -> Result<String, AnyError> {
-    let mut text = match record(heap, &table, letters) {
-        Ok(text) => text,
-        Err(Fault::Letter(place)) => return Err(stray_letter(
-            heap,
-            place,
-            table.sizes().letters,
-        )?.into()),
-        Err(Fault::Memory) => return Err("there is not enough memory for the record".into()),
-    };
-    if let Some(expression) = expression {
-        let mut monitor = Monitor::open(table, expression);
-        let words = words(heap, &mut monitor, letters)?;
-        text.push_str(words.as_str())?;
+    let count = table.sizes().letters;
+    match whole_text(heap, table, expression, letters) {
+        Ok(text) => Ok(text),
+        Err(Fault::Letter(place)) => Err(stray_letter(heap, place, count)?.into()),
+        Err(Fault::Memory) => Err("there is not enough memory for the text".into()),
     }
-    Ok(text)
 }
 
 fn run(rt: &LibcRuntime) -> Result<(), AnyError> {

@@ -21,7 +21,7 @@ pub enum Fault {
     Memory,
 }
 
-impl From<AllocError> for Fault as FaultFromAlloc {
+pub impl From<AllocError> for Fault as FaultFromAlloc {
     ghost converts = { λ _ r. r ≡ Memory };
 
     fn from(_: AllocError) -> Fault {
