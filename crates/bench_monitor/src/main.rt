@@ -2,6 +2,7 @@
 //
 // Each argument is a case: a kind of work, a number of states and how often, as `up,1000,5`. For each case what came
 // of it is printed, and the shortest time that it took on standard error, in nanoseconds.
+#![tactic(auto)]
 
 mod case;
 mod closing;

@@ -1,4 +1,5 @@
 // Expressions over terms: how they are read and written, and what their value is.
+#![tactic(auto)]
 
 mod expression;
 mod fault;

@@ -1,4 +1,5 @@
 // The questions that the parts of a sheet have to answer with yes.
+#![tactic(auto)]
 
 mod declaring;
 mod events;

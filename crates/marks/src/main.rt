@@ -4,6 +4,7 @@
 // one to a line. Where there is a `keep.txt` with an expression over the table's terms, the words of a monitor over
 // the table follow. A list that is no table is refused by its number. Whatever else is wrong with the input is said
 // on standard error, and then nothing is printed.
+#![tactic(auto)]
 
 mod evening;
 mod input;

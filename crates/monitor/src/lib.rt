@@ -1,4 +1,5 @@
 // The monitor: the word after the closed steps, and the claim over every list of calls.
+#![tactic(auto)]
 
 mod answering;
 mod calls;

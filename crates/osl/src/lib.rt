@@ -1,4 +1,5 @@
 // Terms as a licence has them, what they mean in OSL, and which declared events they speak of.
+#![tactic(auto)]
 
 mod choosing;
 mod event;

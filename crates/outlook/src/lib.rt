@@ -1,5 +1,6 @@
 // What can still come of a run: from which states of a watcher some endless run comes to rest at good marks,
 // and from which at others.
+#![tactic(auto)]
 
 mod chart;
 mod looking;

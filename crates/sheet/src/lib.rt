@@ -1,4 +1,5 @@
 // Sheets: the terms that came with a series, as a watcher, and what they mean.
+#![tactic(auto)]
 
 mod joint;
 mod making;

@@ -1,4 +1,5 @@
 // The drawn table: a watcher that a distributor sends as a list of 16-bit words.
+#![tactic(auto)]
 
 mod drawing;
 mod lawful;

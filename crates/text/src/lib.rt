@@ -1,4 +1,5 @@
 // Bytes as lines, words, numbers and names.
+#![tactic(auto)]
 
 mod asking;
 mod bytes;

@@ -1,4 +1,5 @@
 // Endless runs and what watches them: letters, marks, and the trait that every watcher implements.
+#![tactic(auto)]
 
 mod following;
 mod letters;

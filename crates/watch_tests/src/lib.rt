@@ -1,4 +1,5 @@
 // Examples of tables and piles, as tests.
+#![tactic(auto)]
 
 #[cfg(test)]
 mod tests {

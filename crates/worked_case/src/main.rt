@@ -2,6 +2,7 @@
 //
 // The series m may be played once until it is paid, the hour of the payment counted, and it has to be paid within three
 // hours. In hour 1 it is played a second time, and paid only then.
+#![tactic(auto)]
 
 mod terms;
 
