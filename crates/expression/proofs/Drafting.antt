@@ -2,7 +2,7 @@
 use Rattle.std.proofs.Common.{◌≡◌, ℕ, ◌+◌, ◌<◌, ◌≤◌, Bool, true, List, [], ◌∷◌, ◌++◌, map, length, get_or, take, drop, set, replicate, sym, refl, ap, ◌∙◌, append_assoc, arith}
 use Rattle.std.proofs.lemmas.List.{length-set, length-take-le, length-append, length-map, take_more_set, drop-set-lt, at_drop_more, map_push}
 use Rattle.std.proofs.lemmas.Bool.{and_parts, and_from}
-use Rattle.text.specs.Lists.{every}
+use Rattle.text.specs.Clean.{every}
 use Rattle.expression.specs.Writing.{spelled, in_range, most_words}
 use Rattle.expression.specs.inner.Formed.{blank}
 use Rattle.expression.specs.inner.Drafts.{Drafting}

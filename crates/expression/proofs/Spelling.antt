@@ -7,8 +7,7 @@ use Rattle.std.proofs.lemmas.Fmt.{digits_value-decimal, decimal_nonempty}
 use Rattle.std.proofs.lemmas.Bool.{cases_Bool, cond-false, ltb-true, leb-true, le-leb, ne_eqb, not_from_false, and_parts, and_from, both_ways}
 use Rattle.text.specs.Words.{words}
 use Rattle.text.specs.Lines.{unended, Ends}
-use Rattle.text.specs.Clean.{visible, clean_word, clean}
-use Rattle.text.specs.Lists.{every}
+use Rattle.text.specs.Clean.{every, visible, clean_word, clean}
 use Rattle.text.specs.Numbers.{number_limit}
 use Rattle.text.specs.inner.Digits.{read_on}
 use Rattle.text.proofs.Decimals.{own, decimal_digits}

@@ -6,8 +6,7 @@ use Rattle.std.proofs.lemmas.Bool.{cases_Bool}
 use Rattle.std.proofs.lemmas.Bool.Decides.{Decides-not, Decides-and, Decides-or, Decides-like, not_from_Decides}
 use Rattle.watch.specs.Marks.{Has, has}
 use Rattle.watch.proofs.Bits.{has_true, has_from}
-use Rattle.expression.specs.Formulas.{Formula, term, not, and, or, implies, TrueOf}
-use Rattle.watch.specs.Classical.{Either}
+use Rattle.expression.specs.Formulas.{Formula, term, not, and, or, implies, Either, TrueOf}
 use Rattle.expression.specs.Values.{eval}
 use Rattle.expression.specs.inner.Parsing.{first, others, before, parsed}
 use Rattle.expression.specs.declared.token.Token.{Token}

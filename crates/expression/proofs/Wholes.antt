@@ -6,8 +6,7 @@ use Rattle.std.proofs.lemmas.List.{length-take-le, length-drop, take-append-drop
 use Rattle.std.proofs.lemmas.Bool.{and_parts, and_from, eqb-true, eq-eqb, leb-true, le-leb, both_ways}
 use Rattle.text.specs.Words.{words, joined}
 use Rattle.text.specs.Lines.{unended, Ends}
-use Rattle.text.specs.Clean.{clean}
-use Rattle.text.specs.Lists.{every}
+use Rattle.text.specs.Clean.{every, clean}
 use Rattle.text.proofs.Joining.{joined_words}
 use Rattle.expression.specs.Formulas.{Formula}
 use Rattle.expression.specs.Writing.{written, spelled, writing, in_range, most_words, Fits}

@@ -1,7 +1,7 @@
 -- How a formula is written: its words in prefix order, with single spaces between them. Assumes nothing.
 use Rattle.std.specs.Prelude.{◌≡◌, ℕ, ◌≤◌, Bool, true, List, [], ◌∷◌, ◌++◌, map, length, codes, decimal, nat_lt}
 use Rattle.text.specs.Words.{joined}
-use Rattle.text.specs.Lists.{every}
+use Rattle.text.specs.Clean.{every}
 use Rattle.text.specs.Numbers.{number_limit}
 use Rattle.expression.specs.Formulas.{Formula, term, not, and, or, implies}
 use Rattle.expression.specs.declared.token.Token.{Token}

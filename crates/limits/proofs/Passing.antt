@@ -6,7 +6,7 @@ use Rattle.osl.specs.declared.row.Row.{Row}
 use Rattle.expression.specs.Formulas.{Formula}
 use Rattle.limits.specs.declared.refusal.Refusal.{Refusal}
 use Rattle.limits.specs.declared.refusal.Refusal.TheVariants.{Counts, Form, Range, Events, Undeclared, Fixed, Terms, States}
-use Rattle.text.specs.Lists.{every}
+use Rattle.text.specs.Clean.{every}
 use Rattle.limits.specs.Questions.{says, asked, all_yes, first_no, judged}
 
 pub record Passes (events : List Event) (rows : List Row) (keep : Formula) : Type 0 where

@@ -1,7 +1,8 @@
 -- What a row names has to be declared. Assumes nothing.
 use Rattle.std.specs.Prelude.{Bool, true, ◌&&◌, List, vec_items}
 use Rattle.std.specs.Str.{bytes_eq}
-use Rattle.text.specs.Lists.{every, some}
+use Rattle.text.specs.Clean.{every}
+use Rattle.text.specs.Lists.{some}
 use Rattle.text.specs.Names.{name_bytes}
 use Rattle.osl.specs.declared.event.Event.{Event}
 use Rattle.osl.specs.declared.event.Param.{Param}

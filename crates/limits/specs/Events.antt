@@ -1,7 +1,8 @@
 -- What is asked of the declared events beside each other. Assumes nothing.
 use Rattle.std.specs.Prelude.{Bool, true, false, not, ◌&&◌, ◌||◌, List, vec_items}
 use Rattle.std.specs.Str.{bytes_eq}
-use Rattle.text.specs.Lists.{every, apart}
+use Rattle.text.specs.Clean.{every}
+use Rattle.text.specs.Lists.{apart}
 use Rattle.text.specs.Names.{name_bytes}
 use Rattle.osl.specs.declared.event.Class.{Class}
 use Rattle.osl.specs.declared.event.Class.TheVariants.{Use, Other}

@@ -1,6 +1,6 @@
 -- The questions that the parts of a sheet answer, and the first that says no. Assumes nothing.
 use Rattle.std.specs.Prelude.{ℕ, ◌*◌, Bool, true, cond, ◌&&◌, List, [], ◌∷◌, length, Some, None, Option, nat_le}
-use Rattle.text.specs.Lists.{every}
+use Rattle.text.specs.Clean.{every}
 use Rattle.watch.specs.Letters.{most_events}
 use Rattle.watch.specs.Watchers.{most_marks, most_states}
 use Rattle.osl.specs.declared.event.Event.{Event}

@@ -1,6 +1,6 @@
 // Whether what a row names is declared.
 ghost use Rattle.std.specs.Prelude.{◌≡◌, ◌&&◌};
-ghost use Rattle.text.specs.Lists.{every};
+ghost use Rattle.text.specs.Clean.{every};
 ghost use Rattle.text.specs.Names.{name_bytes};
 ghost use Rattle.osl.specs.Terms.{as_pair};
 ghost use Rattle.osl.specs.Matching.{carries as has_param};

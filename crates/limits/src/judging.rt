@@ -1,6 +1,6 @@
 // The questions one after another.
 ghost use Rattle.std.specs.Prelude.{◌≡◌, ◌<◌, ◌≤◌, ◌&&◌, length, MatchOption, nat_le};
-ghost use Rattle.text.specs.Lists.{every};
+ghost use Rattle.text.specs.Clean.{every};
 ghost use Rattle.watch.specs.Letters.{most_events};
 ghost use Rattle.watch.specs.Watchers.{most_marks, most_states};
 ghost use Rattle.expression.specs.Expressions.{formula};

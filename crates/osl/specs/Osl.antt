@@ -4,7 +4,8 @@
 -- means what OSL says to a reader who reasons classically. Assumes nothing.
 use Rattle.std.specs.Prelude.{◌≡◌, ℕ, zero, suc, ◌+◌, ◌<◌, ◌≤◌, Bool, true, false, cond, ◌&&◌, ◌⊎◌, List, [], ◌∷◌}
 use Rattle.std.specs.Str.{bytes_eq}
-use Rattle.text.specs.Lists.{every, some}
+use Rattle.text.specs.Clean.{every}
+use Rattle.text.specs.Lists.{some}
 use Rattle.watch.specs.Classical.{Either, Exists}
 
 infix 50 ◌∈◌

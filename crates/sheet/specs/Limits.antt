@@ -6,7 +6,8 @@ use Rattle.std.specs.Str.{bytes_eq}
 use Rattle.std.proofs.lemmas.Bool.{and_parts, or_parts, ltb-true, leb-true, not-true, both_ways, cases_Bool, cond-true, cond-false, false≢true}
 use Rattle.std.proofs.lemmas.Slice.Eq.{bytes_eq-Decides}
 use Rattle.std.proofs.lemmas.Bool.Decides.{not_from_Decides}
-use Rattle.text.specs.Lists.{every, some, apart}
+use Rattle.text.specs.Clean.{every}
+use Rattle.text.specs.Lists.{some, apart}
 use Rattle.text.specs.Names.{name_bytes}
 use Rattle.watch.specs.Letters.{most_events}
 use Rattle.watch.specs.Watchers.{most_marks, most_states}

@@ -5,7 +5,7 @@ use Rattle.std.proofs.lemmas.Bool.{and_parts, and_from, leb-true, le-leb, or_cas
 use Rattle.std.proofs.lemmas.Str.Parse.{IsNumeralModel, numerals_by_fold, digits_value_short}
 use Rattle.std.proofs.lemmas.Fmt.{decimal-digits_value, digits_decimal, decimal_digit, decimal_nonempty, first_decimal, length-decimal-le}
 use Rattle.text.specs.Numbers.{number_limit}
-use Rattle.text.specs.Lists.{every}
+use Rattle.text.specs.Clean.{every}
 use Rattle.text.specs.inner.Digits.{number_form, read_on}
 
 pub own : IsNumeralModel (λ ds. every is_ascii_digit ds ≡ true) (read_on 0)

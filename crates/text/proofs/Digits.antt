@@ -3,7 +3,7 @@ use Rattle.std.proofs.Common.{◌≡◌, ℕ, ◌+◌, ◌-◌, ◌*◌, ◌^◌
 use Rattle.std.specs.Char.{is_ascii_digit}
 use Rattle.std.proofs.lemmas.List.{at_drop_more}
 use Rattle.std.proofs.lemmas.Bool.{and_parts, leb-true}
-use Rattle.text.specs.Lists.{every}
+use Rattle.text.specs.Clean.{every}
 
 module _ (w : List ℕ) (i : ℕ) (here : i < length w) (digits : every is_ascii_digit (drop i w) ≡ true) where
   parts : (is_ascii_digit (get_or w i 0) ≡ true) × (every is_ascii_digit (drop (i + 1) w) ≡ true)

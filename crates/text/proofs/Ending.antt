@@ -3,8 +3,7 @@ use Rattle.std.proofs.Common.{◌≡◌, ℕ, zero, suc, Bool, true, false, not,
 use Rattle.std.proofs.lemmas.Bool.{cases_Bool, cond-true, cond-false, eqb-true, eq-eqb, ne_eqb, and_parts, and_from, leb-true, not-true, not_from_false}
 use Rattle.text.specs.Words.{words, joined}
 use Rattle.text.specs.Lines.{unended, Ends}
-use Rattle.text.specs.Clean.{visible, clean_word, clean}
-use Rattle.text.specs.Lists.{every}
+use Rattle.text.specs.Clean.{every, visible, clean_word, clean}
 use Rattle.text.proofs.Joining.{joined_words}
 
 -- A line feed behind a text is taken off again.

@@ -2,8 +2,7 @@
 use Rattle.std.proofs.Common.{◌≡◌, ℕ, ◌<◌, true, false, not, eqb, leb, ◌⊎◌, List, [], ◌∷◌, ◌++◌, length, sym, refl, ap, ◌∙◌, inl, inr, arith}
 use Rattle.std.proofs.lemmas.Bool.{cases_Bool, cond-true, cond-false, cond_both, and_parts, eqb-true, ne_eqb, leb-true}
 use Rattle.text.specs.Words.{words, onto, joined}
-use Rattle.text.specs.Clean.{visible, clean_word, clean}
-use Rattle.text.specs.Lists.{every}
+use Rattle.text.specs.Clean.{every, visible, clean_word, clean}
 
 joined_onto : (b : ℕ) (ws : List (List ℕ)) → joined (onto b ws) ≡ b ∷ joined ws
 joined_onto b [] = refl

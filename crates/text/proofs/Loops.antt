@@ -1,7 +1,8 @@
 -- The steps of a loop over a slice whose answer a recursion over the list defines: what is left gives the answer. Assumes nothing.
 use Rattle.std.proofs.Common.{◌≡◌, ℕ, ◌+◌, ◌-◌, ◌<◌, ◌≤◌, Bool, true, false, ◌&&◌, ◌||◌, List, [], ◌∷◌, length, get_or, take, drop, sym, refl, ap, ◌∙◌}
 use Rattle.std.proofs.lemmas.List.{at_drop_more, at_drop_all, get_or_default, take_rest}
-use Rattle.text.specs.Lists.{every, some}
+use Rattle.text.specs.Clean.{every}
+use Rattle.text.specs.Lists.{some}
 
 module _ {X Y : Type 0} (f : List X → Y) (xs : List X) (i : ℕ) where
   -- at the element that was read

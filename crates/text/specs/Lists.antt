@@ -1,11 +1,6 @@
 -- Tests over lists. Assumes nothing.
 use Rattle.std.specs.Prelude.{Bool, true, false, not, ◌&&◌, ◌||◌, List, [], ◌∷◌}
 
--- Every element passes the test.
-abbrev pub every : {X : Type 0} → (X → Bool) → List X → Bool
-every p [] = true
-every p (x ∷ xs) = p x && every p xs
-
 -- Some element passes the test.
 abbrev pub some : {X : Type 0} → (X → Bool) → List X → Bool
 some p [] = false

@@ -1,6 +1,6 @@
 -- What can be a name. Assumes nothing.
 use Rattle.std.specs.Prelude.{ℕ, Bool, ◌&&◌, ◌||◌, List, length, nat_le}
-use Rattle.text.specs.Lists.{every}
+use Rattle.text.specs.Clean.{every}
 
 abbrev pub most_letters : ℕ
 most_letters = 16

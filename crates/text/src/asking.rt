@@ -1,6 +1,7 @@
 // Questions that are put to each element of a list, where Rust would pass a closure to `all` and `any`.
 ghost use Rattle.std.specs.Prelude.{◌≡◌, Bool};
-ghost use Rattle.text.specs.Lists.{every, some, apart};
+ghost use Rattle.text.specs.Clean.{every};
+ghost use Rattle.text.specs.Lists.{some, apart};
 
 // A question with yes and no as answers.
 pub trait Asks<T> {

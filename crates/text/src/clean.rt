@@ -1,7 +1,6 @@
 // Clean lines: words of visible bytes between single spaces.
 ghost use Rattle.std.specs.Prelude.{◌≡◌};
-ghost use Rattle.text.specs.Clean.{visible, clean_word, clean};
-ghost use Rattle.text.specs.Lists.{every};
+ghost use Rattle.text.specs.Clean.{every, visible, clean_word, clean};
 
 use crate::line::Words;
 

@@ -1,7 +1,7 @@
 // Making a name of a text, and comparing names.
 ghost use Rattle.std.specs.Prelude.{◌≡◌, true, false, string_bytes, MatchOption};
 ghost use Rattle.std.specs.Str.{bytes_eq};
-ghost use Rattle.text.specs.Lists.{every};
+ghost use Rattle.text.specs.Clean.{every};
 ghost use Rattle.text.specs.NameForms.{name_byte, name_form};
 ghost use Rattle.text.specs.Names.{name_bytes};
 

@@ -1,7 +1,7 @@
 // Numbers as they are written: at most six digits, of which the first is 0 only in 0 itself.
 ghost use Rattle.std.specs.Prelude.{◌≡◌, ℕ, ◌<◌, true, decimal, MatchOption, ◌≢◌};
 ghost use Rattle.std.specs.Char.{is_ascii_digit};
-ghost use Rattle.text.specs.Lists.{every};
+ghost use Rattle.text.specs.Clean.{every};
 ghost use Rattle.text.specs.Numbers.{number_limit};
 ghost use Rattle.text.specs.inner.Digits.{number_form, read_on};
 

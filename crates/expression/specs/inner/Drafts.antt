@@ -1,7 +1,7 @@
 -- The words of a line while it is read. Assumes nothing.
 use Rattle.std.specs.Prelude.{◌≡◌, ℕ, ◌<◌, ◌≤◌, true, List, [], ◌++◌, map, length, take, drop, Some, None, Option, ◌≢◌}
 use Rattle.text.specs.Words.{words}
-use Rattle.text.specs.Lists.{every}
+use Rattle.text.specs.Clean.{every}
 use Rattle.expression.specs.Formulas.{Formula}
 use Rattle.expression.specs.Writing.{written, spelled, in_range, most_words}
 use Rattle.expression.specs.inner.Formed.{blank}

@@ -1,6 +1,6 @@
 -- What every value of an expression keeps. Assumes nothing.
 use Rattle.std.specs.Prelude.{ℕ, Bool, false, ◌&&◌, List, length, take, drop, ◌==◌, nat_le}
-use Rattle.text.specs.Lists.{every}
+use Rattle.text.specs.Clean.{every}
 use Rattle.expression.specs.Writing.{in_range, most_words}
 use Rattle.expression.specs.inner.Parsing.{whole}
 use Rattle.expression.specs.declared.token.Token.{Token}

@@ -1,7 +1,7 @@
 -- Digits as the code reads them. Assumes nothing.
 use Rattle.std.specs.Prelude.{ℕ, ◌+◌, ◌-◌, ◌*◌, Bool, not, ◌&&◌, ◌||◌, List, [], ◌∷◌, length, ◌==◌, nat_le, slice_index}
 use Rattle.std.specs.Char.{is_ascii_digit}
-use Rattle.text.specs.Lists.{every}
+use Rattle.text.specs.Clean.{every}
 
 -- 1 to 6 digits, and no leading zero but in 0 itself.
 abbrev pub number_form : List ℕ → Bool

@@ -1,5 +1,5 @@
 use Rattle.std.proofs.Common.{sym, ◌∙◌}
-use Rattle.text.specs.Lists.{every}
+use Rattle.text.specs.Clean.{every}
 use Rattle.text.proofs.Loops.{at, ended, fail, pass}
 use Rattle.text.proofs.asking.all.Goals as goal
 

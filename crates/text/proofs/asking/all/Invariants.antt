@@ -1,5 +1,5 @@
 use Rattle.std.proofs.Common.{◌≡◌, drop}
-use Rattle.text.specs.Lists.{every}
+use Rattle.text.specs.Clean.{every}
 use Rattle.text.proofs.asking.all.Given as goal
 
 abbrev pub invariant-loop-item : goal.invariant-loop-item

@@ -1,6 +1,5 @@
 use Rattle.std.proofs.Common.{◌≡◌, drop}
-use Rattle.text.specs.Clean.{visible}
-use Rattle.text.specs.Lists.{every}
+use Rattle.text.specs.Clean.{every, visible}
 use Rattle.text.proofs.clean.all_visible.Given as goal
 
 abbrev pub invariant-loop-b : goal.invariant-loop-b

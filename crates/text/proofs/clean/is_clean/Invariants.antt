@@ -1,6 +1,5 @@
 use Rattle.std.proofs.Common.{◌≡◌, length}
-use Rattle.text.specs.Clean.{clean, clean_word}
-use Rattle.text.specs.Lists.{every}
+use Rattle.text.specs.Clean.{every, clean, clean_word}
 use Rattle.text.specs.Words.{words_left}
 use Rattle.text.proofs.clean.is_clean.Given as goal
 

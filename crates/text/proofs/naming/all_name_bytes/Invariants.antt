@@ -1,5 +1,5 @@
 use Rattle.std.proofs.Common.{◌≡◌, drop}
-use Rattle.text.specs.Lists.{every}
+use Rattle.text.specs.Clean.{every}
 use Rattle.text.specs.NameForms.{name_byte}
 use Rattle.text.proofs.naming.all_name_bytes.Given as goal
 

@@ -1,6 +1,6 @@
 use Rattle.std.proofs.Common.{◌≡◌, drop}
 use Rattle.std.specs.Char.{is_ascii_digit}
-use Rattle.text.specs.Lists.{every}
+use Rattle.text.specs.Clean.{every}
 use Rattle.text.proofs.numbers.all_digits.Given as goal
 
 abbrev pub invariant-loop-b : goal.invariant-loop-b

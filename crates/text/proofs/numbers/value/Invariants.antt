@@ -1,6 +1,6 @@
 use Rattle.std.proofs.Common.{◌≡◌, ◌^◌, ◌<◌, true, drop}
 use Rattle.std.specs.Char.{is_ascii_digit}
-use Rattle.text.specs.Lists.{every}
+use Rattle.text.specs.Clean.{every}
 use Rattle.text.specs.inner.Digits.{read_on}
 use Rattle.text.proofs.numbers.value.Given as goal
 
