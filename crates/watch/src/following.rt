@@ -33,8 +33,8 @@ pub fn follow<W: Watcher>(
     letters: &[u16],
     stands: &mut [Passed],
 ) -> Result<MarkSet, usize>
-    ensures followed { Follows (watching watcher.now) letters.now stands.old stands.new result }
-    ensures others { (i : ℕ) → (i ≡ 0) ⊎ ((watching watcher.now).marks < i) → (run : Run) → Holds (watching watcher.now) run i }
+    ensures followed { Follows (W.watching watcher.now) letters.now stands.old stands.new result }
+    ensures others { (i : ℕ) → (i ≡ 0) ⊎ ((W.watching watcher.now).marks < i) → (run : Run) → Holds (W.watching watcher.now) run i }
 {
     if let Some(place) = stray(letters, watcher.sizes().letters) {
         return Err(place);

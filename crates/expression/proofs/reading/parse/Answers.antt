@@ -12,35 +12,35 @@ use Rattle.expression.proofs.reading.parse.Goals as goal
 from_start : (ts : List Token) (len : ℕ) (o : Option ℕ) → EndOf (take (len - 0) ts) 0 o → EndOf (take len ts) 0 o
 from_start ts len o h = subst (λ (n : ℕ). EndOf (take n ts) 0 o) (sub-zero len) h
 
-pub returns-in-err-draft : goal.returns-in-err-draft
-returns-in-err-draft c =
+pub returns-in_err-draft : goal.returns-in_err-draft
+returns-in_err-draft c =
     rw c.from-residual.ensures
-    (λ f fits e. c.in-err-draft.ensures (written f) fits.0 fits.1 (sym (ap words e ∙ words_writing f fits.1)))
+    (λ f fits e. c.in_err-draft.ensures (written f) fits.0 fits.1 (sym (ap words e ∙ words_writing f fits.1)))
 
-pub returns-in-err-end : goal.returns-in-err-end
-returns-in-err-end c =
-    let d = c.in-ok-draft.draft in
-    rw c.from-residual-in-err-end.ensures
-    (none_whole c.args.line.now d.words d.len c.in-ok-draft.ensures
-    (from_start d.words d.len None c.in-err-end.ensures))
+pub returns-in_err-end : goal.returns-in_err-end
+returns-in_err-end c =
+    let d = c.in_ok-draft.draft in
+    rw c.from-residual-in_err-end.ensures
+    (none_whole c.args.line.now d.words d.len c.in_ok-draft.ensures
+    (from_start d.words d.len None c.in_err-end.ensures))
 
 pub returns-then-end-draft : goal.returns-then-end-draft
 returns-then-end-draft c =
-    let d = c.in-ok-draft.draft in
-    goes_on c.args.line.now d.words d.len c.in-ok-draft.ensures c.in-ok-end.end
-    (from_start d.words d.len (Some c.in-ok-end.end) c.in-ok-end.ensures) c.if-end-draft.true
+    let d = c.in_ok-draft.draft in
+    goes_on c.args.line.now d.words d.len c.in_ok-draft.ensures c.in_ok-end.end
+    (from_start d.words d.len (Some c.in_ok-end.end) c.in_ok-end.ensures) c.if-end-draft.true
 
 -- The expression that was read ends with the last word.
 to_end : (ts : List Token) (len end : ℕ) → EndOf (take (len - 0) ts) 0 (Some end) → end ≡ len → EndOf (take len ts) 0 (Some len)
 to_end ts len end h e = subst (λ (n : ℕ). EndOf (take len ts) 0 (Some n)) e (from_start ts len (Some end) h)
 
-pub invariant-of-result : goal.invariant-of-result
-invariant-of-result c =
-    let d = c.in-ok-draft.draft in
-    (is_formed c.args.line.now d.words d.len c.in-ok-draft.ensures (to_end d.words d.len c.in-ok-end.end c.in-ok-end.ensures c.if-end-draft.false), tt)
+pub invariant_of-result : goal.invariant_of-result
+invariant_of-result c =
+    let d = c.in_ok-draft.draft in
+    (is_formed c.args.line.now d.words d.len c.in_ok-draft.ensures (to_end d.words d.len c.in_ok-end.end c.in_ok-end.ensures c.if-end-draft.false), tt)
 
 pub returns : goal.returns
 returns c =
-    let d = c.in-ok-draft.draft in
-    line_of c.args.line.now d.words d.len c.in-ok-draft.ensures
-    (to_end d.words d.len c.in-ok-end.end c.in-ok-end.ensures c.if-end-draft.false)
+    let d = c.in_ok-draft.draft in
+    line_of c.args.line.now d.words d.len c.in_ok-draft.ensures
+    (to_end d.words d.len c.in_ok-end.end c.in_ok-end.ensures c.if-end-draft.false)

@@ -7,16 +7,16 @@ loop-event-init g c = noting_none g.W.Watcher.watching c.args.monitor.now c.args
 
 pub loop-event-preserved : goal.loop-event-preserved
 loop-event-preserved g c =
-    noting_more g.W.Watcher.watching c.args.monitor.now c.args.letter c.loop-event.event c.loop-event.rest c.loop-event.monitor c.loop-event.invariant c.note-digit.result c.note-digit.new.monitor c.note-digit.ensures.notes c.note-digit.ensures.same
+    noting_more g.W.Watcher.watching c.args.monitor.now c.args.letter c.loop-event.event c.loop-event.rest c.loop-event.monitor c.loop-event.invariant c.note_digit.result c.note_digit.new.monitor c.note_digit.ensures.notes c.note_digit.ensures.same
 
-pub returns-in-err-note-digit : goal.returns-in-err-note-digit
-returns-in-err-note-digit g c =
+pub returns-in_err-note_digit : goal.returns-in_err-note_digit
+returns-in_err-note_digit g c =
     let was = c.loop-event.invariant.same in
-    let is = c.note-digit.ensures.same in
+    let is = c.note_digit.ensures.same in
     record {
       same = record { watcher = is.watcher ∙ was.watcher; expression = is.expression ∙ was.expression };
       notes = λ closed small y.
-          absurd (none_refused g.W.Watcher.watching c.args.monitor.now c.args.letter c.loop-event.event c.loop-event.rest c.loop-event.monitor c.loop-event.invariant c.note-digit.result c.note-digit.new.monitor c.note-digit.ensures.notes c.in-err-note-digit.field-0.0 c.in-err-note-digit.was closed small y);
+          absurd (none_refused g.W.Watcher.watching c.args.monitor.now c.args.letter c.loop-event.event c.loop-event.rest c.loop-event.monitor c.loop-event.invariant c.note_digit.result c.note_digit.new.monitor c.note_digit.ensures.notes c.in_err-note_digit.field-0.0 c.in_err-note_digit.was closed small y);
     }
 
 pub returns : goal.returns

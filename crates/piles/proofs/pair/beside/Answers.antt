@@ -2,11 +2,11 @@ use Rattle.std.proofs.Common.{ℕ, ◌+◌, ap, arith}
 use Rattle.piles.specs.Besides.{beside_whole}
 use Rattle.piles.proofs.pair.beside.Goals as goal
 
-pub overflow-shl-result : goal.overflow-shl-result
-overflow-shl-result c = omega (arith, c.requires.few.0, c.requires.few.1)
+pub overflow_shl-result : goal.overflow_shl-result
+overflow_shl-result c = omega (arith, c.requires.few.0, c.requires.few.1)
 
-pub overflow-add-result : goal.overflow-add-result
-overflow-add-result c =
+pub overflow_add-result : goal.overflow_add-result
+overflow_add-result c =
     let whole = beside_whole c.args.first.bits c.args.second.bits c.args.marks c.args.more c.requires.first c.requires.second c.requires.few.1 in
     omega (arith, whole.0, whole.1)
 

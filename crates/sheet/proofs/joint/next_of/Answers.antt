@@ -28,20 +28,20 @@ module _ (c : goal.After-next) where
   small : c.loop-place.sum + c.loop-place.weight * c.next.result < product c.args.rows.now
   small = omega (arith, more.below, grown)
 
-pub overflow-mul-sum : goal.overflow-mul-sum
-overflow-mul-sum c = omega (arith, small c)
+pub overflow_mul-sum : goal.overflow_mul-sum
+overflow_mul-sum c = omega (arith, small c)
 
-pub overflow-add-sum : goal.overflow-add-sum
-overflow-add-sum c = omega (arith, small c)
+pub overflow_add-sum : goal.overflow_add-sum
+overflow_add-sum c = omega (arith, small c)
 
-pub overflow-mul-weight : goal.overflow-mul-weight
-overflow-mul-weight c = omega (arith, grown c)
+pub overflow_mul-weight : goal.overflow_mul-weight
+overflow_mul-weight c = omega (arith, grown c)
 
 pub loop-place-preserved : goal.loop-place-preserved
 loop-place-preserved c = more c
 
-pub overflow-cast-result : goal.overflow-cast-result
-overflow-cast-result c =
+pub overflow_cast-result : goal.overflow_cast-result
+overflow_cast-result c =
     let all =
     summed_all c.args.rows.now c.args.matched.now c.args.step.now.digits c.args.state c.loop-place.place c.loop-place.rest
     c.loop-place.weight c.loop-place.sum c.loop-place.invariant c.loop-place-test.false

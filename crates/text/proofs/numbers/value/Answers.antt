@@ -4,8 +4,8 @@ use Rattle.text.specs.inner.Digits.{read_on}
 use Rattle.text.proofs.Digits.{digits_on, digit_here, grown}
 use Rattle.text.proofs.numbers.value.Goals as goal
 
-pub overflow-sub-n : goal.overflow-sub-n
-overflow-sub-n c = (digit_here c.args.word.now c.loop-b.b-index c.loop-b-test.true c.loop-b.invariant.2).0
+pub overflow_sub-n : goal.overflow_sub-n
+overflow_sub-n c = (digit_here c.args.word.now c.loop-b.b-index c.loop-b-test.true c.loop-b.invariant.2).0
 
 pub loop-b-preserved : goal.loop-b-preserved
 loop-b-preserved c =

@@ -20,7 +20,7 @@ returns g c =
     let w = g.W.Watcher.watching c.args.watcher.now in
     let law = g.met.W.Watcher.lawful c.args.watcher.now in
     let letters = c.args.letters.now in
-    let within = subst (λ (n : ℕ). Within n letters (length letters)) (ap (λ (s : Sizes). s.letters) c.sizes.ensures) c.in-default.ensures in
+    let within = subst (λ (n : ℕ). Within n letters (length letters)) (ap (λ (s : Sizes). s.letters) c.sizes.ensures) c.in_default.ensures in
     record {
       followed = (within, finish w letters c.args.stands.now c.loop-place.stands c.loop-place.place c.loop-place.state c.shown-2.result law within (omega (arith, c.min-place-end.ensures)) c.shown-2.ensures c.loop-place.invariant);
       others = no_mark_holds w law;

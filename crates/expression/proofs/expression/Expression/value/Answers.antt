@@ -13,5 +13,5 @@ pub returns : goal.returns
 returns c =
     let f = formula c.args.self.now in
     let set : ℕ = c.args.shown.bits in
-    let same : c.value-at-result.result.0 ≡ eval f set = c.value-at-result.ensures.value ∙ ap (λ (g : Formula). eval g set) (ap (λ (ts : List Token). first (parsed ts)) c.tokens.ensures.words ∙ first_written f) in
+    let same : c.value_at-result.result.0 ≡ eval f set = c.value_at-result.ensures.value ∙ ap (λ (g : Formula). eval g set) (ap (λ (ts : List Token). first (parsed ts)) c.tokens.ensures.words ∙ first_written f) in
     record { value = same; truth = Decides-at _ _ same (decides_truth set f) }

@@ -5,10 +5,10 @@ use Rattle.expression.proofs.reading.Draft.of.Goals as goal
 pub returns-then-len-eq-MOST-WORDS : goal.returns-then-len-eq-MOST-WORDS
 returns-then-len-eq-MOST-WORDS c = too_many _ _ _ _ c.loop-word.invariant _ _ c.in-Some.ensures c.if-len-eq-MOST-WORDS.true
 
-pub returns-in-err-words : goal.returns-in-err-words
-returns-in-err-words c = rw c.from-residual.ensures (unknown _ _ _ _ c.loop-word.invariant _ _ c.in-Some.ensures c.in-err-words.ensures)
+pub returns-in_err-words : goal.returns-in_err-words
+returns-in_err-words c = rw c.from-residual.ensures (unknown _ _ _ _ c.loop-word.invariant _ _ c.in-Some.ensures c.in_err-words.ensures)
 
 pub loop-word-preserved : goal.loop-word-preserved
 loop-word-preserved c =
-    let told = c.in-ok-words.ensures in
-    word_more _ _ _ _ c.loop-word.invariant _ _ c.in-Some.ensures c.in-ok-words.field-0 (omega (arith, c.loop-word.invariant.few, c.if-len-eq-MOST-WORDS.false)) told.0 told.1
+    let told = c.in_ok-words.ensures in
+    word_more _ _ _ _ c.loop-word.invariant _ _ c.in-Some.ensures c.in_ok-words.field-0 (omega (arith, c.loop-word.invariant.few, c.if-len-eq-MOST-WORDS.false)) told.0 told.1

@@ -8,15 +8,15 @@ use Rattle.monitor.specs.declared.refusal.Refusal.TheVariants.{Event, Noted}
 use Rattle.monitor.proofs.Noting.{takes_note, refused_note, out_of_range, noted_already}
 use Rattle.monitor.proofs.running.Running.note.Goals as goal
 
-pub returns-then-not-is-lawful : goal.returns-then-not-is-lawful
-returns-then-not-is-lawful c =
+pub returns-then-not-is_lawful : goal.returns-then-not-is_lawful
+returns-then-not-is_lawful c =
     let p = c.args.self.now in
     let g = c.args.events in
     let e = c.args.event in
     let k = c.args.kind in
     record {
       unmoved = λ _. refl;
-      right = λ w plain same x. refused_note w plain p g e k Event x (out_of_range plain g e k (sym c.is-lawful.ensures ∙ c.if-not-is-lawful.true));
+      right = λ w plain same x. refused_note w plain p g e k Event x (out_of_range plain g e k (sym c.is_lawful.ensures ∙ c.if-not-is_lawful.true));
     }
 
 pub returns-then-self-event-ne0 : goal.returns-then-self-event-ne0
@@ -24,7 +24,7 @@ returns-then-self-event-ne0 c =
     let p = c.args.self.now in
     let e = c.args.event in
     let k = c.args.kind in
-    let lawful = sym c.is-lawful.ensures ∙ c.if-not-is-lawful.false in
+    let lawful = sym c.is_lawful.ensures ∙ c.if-not-is_lawful.false in
     record {
       unmoved = λ _. refl;
       right = λ w plain same x.
@@ -39,7 +39,7 @@ returns c =
     let p = c.args.self.now in
     let e = c.args.event in
     let k = c.args.kind in
-    let lawful = sym c.is-lawful.ensures ∙ c.if-not-is-lawful.false in
+    let lawful = sym c.is_lawful.ensures ∙ c.if-not-is_lawful.false in
     record {
       unmoved = λ e. absurd (both_ways true e refl);
       right = λ w plain same x.

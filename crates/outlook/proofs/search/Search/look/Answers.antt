@@ -14,8 +14,8 @@ bounds-self-place g c =
     let law = g.met.W.Watcher.lawful c.args.watcher.now in
     place_fits w law c.args.good.now c.args.self.now c.requires.goes _ (omega (arith, c.requires.some))
 
-pub overflow-add-self : goal.overflow-add-self
-overflow-add-self g c =
+pub overflow_add-self : goal.overflow_add-self
+overflow_add-self g c =
     let w = g.W.Watcher.watching c.args.watcher.now in
     let law = g.met.W.Watcher.lawful c.args.watcher.now in
     let x = c.args.self.now in

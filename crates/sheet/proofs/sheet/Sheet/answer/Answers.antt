@@ -16,6 +16,6 @@ returns c =
       count = search rules;
       agrees =
           agrees_like (length (events_of s)) (RightWord (watched (events_of s) (rows_of s)) (keep_of s)) (RightWordOfRows (events_of s) (rows_of s) (keep_of s))
-          (λ closed word right. right_word (events_of s) (rows_of s) (keep_of s) m closed word right) opened (take c.answer-all.result c.args.calls.now) (take c.answer-all.result c.answer-all.new.answers) c.answer-all.ensures.agrees;
+          (λ closed word right. right_word (events_of s) (rows_of s) (keep_of s) m closed word right) opened (take c.answer_all.result c.args.calls.now) (take c.answer_all.result c.answer_all.new.answers) c.answer_all.ensures.agrees;
       rest = search rules;
     }

@@ -24,13 +24,13 @@ returns-in-Some c =
     judged_parts (vec_items c.args.events) _ (vec_items c.args.rows) _ (formula c.args.keep) _
     c.deref.ensures.value c.deref-2.ensures.value c.in-Some.ensures
 
-pub sizes-of-sizes-requires : goal.sizes-of-sizes-requires
-sizes-of-sizes-requires c =
+pub sizes_of-sizes-requires : goal.sizes_of-sizes-requires
+sizes_of-sizes-requires c =
     let events = vec_items c.args.events in
     let rows = vec_items c.args.rows in
     let keep = formula c.args.keep in
     let none : judged events rows keep ≡ None =
-    judged_parts events _ rows _ keep _ c.deref.ensures.value c.deref-2.ensures.value c.in-default.ensures
+    judged_parts events _ rows _ keep _ c.deref.ensures.value c.deref-2.ensures.value c.in_default.ensures
     in
     let lim : Bounds events rows = within events rows keep (all_said_yes events rows keep none) in (
       subst (λ (es : List Event). length es ≤ most_events) (sym c.deref-5.ensures.value) lim.few_events,
@@ -40,30 +40,30 @@ sizes-of-sizes-requires c =
       ),
     )
 
-pub match-all-matched-requires : goal.match-all-matched-requires
-match-all-matched-requires c =
+pub match_all-matched-requires : goal.match_all-matched-requires
+match_all-matched-requires c =
     let events = vec_items c.args.events in
     let rows = vec_items c.args.rows in
     let keep = formula c.args.keep in
     let none : judged events rows keep ≡ None =
-    judged_parts events _ rows _ keep _ c.deref.ensures.value c.deref-2.ensures.value c.in-default.ensures
+    judged_parts events _ rows _ keep _ c.deref.ensures.value c.deref-2.ensures.value c.in_default.ensures
     in
     subst (λ (rs : List Row). length rs ≤ most_marks) (sym c.deref-4.ensures.value) (within events rows keep (all_said_yes events rows keep none)).few_rows
 
-pub invariant-of-result : goal.invariant-of-result
-invariant-of-result c =
+pub invariant_of-result : goal.invariant_of-result
+invariant_of-result c =
     let events = vec_items c.args.events in
     let rows = vec_items c.args.rows in
     let keep = formula c.args.keep in
     let none : judged events rows keep ≡ None =
-    judged_parts events _ rows _ keep _ c.deref.ensures.value c.deref-2.ensures.value c.in-default.ensures
+    judged_parts events _ rows _ keep _ c.deref.ensures.value c.deref-2.ensures.value c.in_default.ensures
     in (
       all_said_yes events rows keep none,
       (
-        c.match-all-matched.ensures ∙
+        c.match_all-matched.ensures ∙
             ap₂ (λ (es : List Event) (rs : List Row). matched_all es most_marks rs) c.deref-3.ensures.value c.deref-4.ensures.value,
         (
-          c.sizes-of-sizes.ensures ∙
+          c.sizes_of-sizes.ensures ∙
               ap₂ (λ (es : List Event) (rs : List Row). sizes_of (watched es rs)) c.deref-5.ensures.value c.deref-6.ensures.value,
           tt,
         ),
@@ -73,6 +73,6 @@ invariant-of-result c =
 pub returns : goal.returns
 returns c = (
   judged_parts (vec_items c.args.events) _ (vec_items c.args.rows) _ (formula c.args.keep) _
-      c.deref.ensures.value c.deref-2.ensures.value c.in-default.ensures,
+      c.deref.ensures.value c.deref-2.ensures.value c.in_default.ensures,
   record { events_are = refl; rows_are = refl; keep_is = refl },
 )

@@ -27,8 +27,8 @@ returns-then-state-self c =
           (and_right _ _ (le-ltb c.args.letter letters (omega (arith, w.if-letter-self.true, letters-are)))))
     ]
 
-pub next-of-requires : goal.next-of-requires
-next-of-requires c =
+pub next_of-requires : goal.next_of-requires
+next_of-requires c =
     let s = c.args.self.now in
     let lim : Bounds (vec_items s.events) (vec_items s.rows) = within (vec_items s.events) (vec_items s.rows) (formula s.keep) s.lawful in
     subst (λ (rows : List Row). (product rows ≤ most_states) × (length rows ≤ length s.matched)) (sym c.deref.ensures.value)

@@ -5,8 +5,8 @@ use Rattle.expression.specs.Expressions.{formula}
 use Rattle.sheet.specs.Limits.{within}
 use Rattle.sheet.proofs.sheet.SheetWatcher.shown.Goals as goal
 
-pub marks-of-requires : goal.marks-of-requires
-marks-of-requires c =
+pub marks_of-requires : goal.marks_of-requires
+marks_of-requires c =
     let s = c.args.self.now in
     subst (λ (rows : List Row). length rows ≤ most_marks) (sym c.deref.ensures.value)
     (within (vec_items s.events) (vec_items s.rows) (formula s.keep) s.lawful).few_rows

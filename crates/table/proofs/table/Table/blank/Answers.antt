@@ -7,8 +7,8 @@ use Rattle.table.specs.Drawings.{drawn}
 use Rattle.table.proofs.States.{blank_lawful, blank_quiet}
 use Rattle.table.proofs.table.Table.blank.Goals as goal
 
-pub invariant-of-result : goal.invariant-of-result
-invariant-of-result c =
+pub invariant_of-result : goal.invariant_of-result
+invariant_of-result c =
     let is : [] ≡ vec_items c.new.result = sym c.new.ensures.items in
     (ap (λ (words : List ℕ). sizes_of (drawn words)) is, (∣ subst (λ (words : List ℕ). Lawful (drawn words)) is blank_lawful ∣₁, tt))
 
