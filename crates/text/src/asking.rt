@@ -13,7 +13,7 @@ pub trait Asks<T> {
 
 // Whether every element answers yes.
 pub fn all<T, Q: Asks<T>>(items: &[T], question: &Q) -> bool
-    ensures { result ≡ every (asks question.now) items.now }
+    ensures { result ≡ every (Q.asks question.now) items.now }
 {
     for item in items {
         if !question.ask(item) {
@@ -25,7 +25,7 @@ pub fn all<T, Q: Asks<T>>(items: &[T], question: &Q) -> bool
 
 // Whether some element answers yes.
 pub fn any<T, Q: Asks<T>>(items: &[T], question: &Q) -> bool
-    ensures { result ≡ some (asks question.now) items.now }
+    ensures { result ≡ some (Q.asks question.now) items.now }
 {
     for item in items {
         if question.ask(item) {
@@ -60,7 +60,7 @@ impl<T, Q: Compares<T>> Asks<T> for With<'_, '_, T, Q> {
 
 // Whether no element and a later one answer yes.
 pub fn are_apart<T, Q: Compares<T>>(items: &[T], question: &Q) -> bool
-    ensures { result ≡ apart (compares question.now) items.now }
+    ensures { result ≡ apart (Q.compares question.now) items.now }
 {
     for (place, first) in items.iter().enumerate() {
         if any(&items[place + 1..], &With { question, first }) {
