@@ -10,7 +10,7 @@ use Rattle.table.proofs.table.Table.blank.Goals as goal
 pub invariant_of-result : goal.invariant_of-result
 invariant_of-result c =
     let is : [] ≡ vec_items c.new.result = sym c.new.ensures.items in
-    (ap (λ (words : List ℕ). sizes_of (drawn words)) is, (∣ subst (λ (words : List ℕ). Lawful (drawn words)) is blank_lawful ∣₁, tt))
+    record { sized = ap (λ (words : List ℕ). sizes_of (drawn words)) is; lawful = ∣ subst (λ (words : List ℕ). Lawful (drawn words)) is blank_lawful ∣₁ }
 
 pub returns : goal.returns
 returns c =
