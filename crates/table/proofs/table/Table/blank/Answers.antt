@@ -1,8 +1,7 @@
-use Rattle.std.proofs.Common.{◌≡◌, ℕ, List, [], vec_items, sym, refl, ap, subst}
+use Rattle.std.proofs.Common.{◌≡◌, ℕ, List, [], vec_items, sym, ap, subst}
 use Rattle.watch.specs.Runs.{Run, Holds}
 use Rattle.watch.specs.Sizes.{sizes_of}
 use Rattle.watch.specs.Watchers.{Lawful}
-use Rattle.watch.specs.declared.watcher.Sizes.{Sizes}
 use Rattle.table.specs.Drawings.{drawn}
 use Rattle.table.proofs.States.{blank_lawful, blank_quiet}
 use Rattle.table.proofs.table.Table.blank.Goals as goal

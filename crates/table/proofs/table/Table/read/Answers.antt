@@ -1,4 +1,4 @@
-use Rattle.std.proofs.Common.{◌≡◌, ℕ, true, false, List, sym, refl, ap, ◌∙◌, subst, arith}
+use Rattle.std.proofs.Common.{◌≡◌, ℕ, List, refl, ap, ◌∙◌, subst, arith}
 use Rattle.watch.specs.Sizes.{sizes_of}
 use Rattle.watch.specs.Watchers.{Lawful}
 use Rattle.table.specs.Drawings.{drawn, Sized}
