@@ -35,7 +35,7 @@ impl fmt::Display for Token {
 
 // Writes the words with single spaces between them.
 fn show<W: fmt::Write>(words: &[Token], f: &mut fmt::Formatter<W>) -> fmt::Result
-    ensures { WritesOnOk write_str_gives f.old result (joined (map spelled words.now)) f.new }
+    ensures { WritesOnOk W.write_str_gives f.old result (joined (map spelled words.now)) f.new }
 {
     for (i, word) in words.iter().enumerate() {
         if i != 0 {

@@ -17,7 +17,7 @@ pub fn answer_all<W: Watcher + Drop>(
     answers: &mut [Answer],
 ) -> usize
     ensures count { result ≡ min (length calls.now) (length answers.old) }
-    ensures agrees { Agrees (watching watcher) (formula expression) opened (take result calls.now) (take result answers.new) }
+    ensures agrees { Agrees (W.watching watcher) (formula expression) opened (take result calls.now) (take result answers.new) }
     ensures rest { drop result answers.new ≡ drop result answers.old }
 {
     let mut monitor = Monitor::open(watcher, expression);

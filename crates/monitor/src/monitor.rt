@@ -39,7 +39,7 @@ impl<W: Watcher> Monitor<W> {
     pub fn open(watcher: W, expression: Expression) -> Monitor<W>
         ensures watcher { result.watcher ≡ watcher }
         ensures expression { result.expression ≡ expression }
-        ensures stands { Represents (watching watcher) (formula expression) result opened }
+        ensures stands { Represents (W.watching watcher) (formula expression) result opened }
     {
         let outlook = outlook(&watcher, &expression.truths());
         let running = Running::begin(watcher.start());
@@ -55,7 +55,7 @@ impl<W: Watcher> Monitor<W> {
     pub fn note(&mut self, event: u8, kind: u8) -> Result<(), Refusal>
         ensures same { Same self.old self.new }
         ensures unmoved { is_ok result ≡ false → self.new ≡ self.old }
-        ensures takes { Takes (watching self.old.watcher) (formula self.old.expression) self.old (Call.Note event kind) (λ plain. note_answer (watching self.old.watcher).events plain event kind) result self.new }
+        ensures takes { Takes (W.watching self.old.watcher) (formula self.old.expression) self.old (Call.Note event kind) (λ plain. note_answer (W.watching self.old.watcher).events plain event kind) result self.new }
     {
         self.running.note(self.watcher.sizes().events, event, kind)
     }
@@ -64,14 +64,14 @@ impl<W: Watcher> Monitor<W> {
     pub fn close(&mut self) -> Result<(), Refusal>
         ensures same { Same self.old self.new }
         ensures unmoved { is_ok result ≡ false → self.new ≡ self.old }
-        ensures takes { Takes (watching self.old.watcher) (formula self.old.expression) self.old Call.Close close_answer result self.new }
+        ensures takes { Takes (W.watching self.old.watcher) (formula self.old.expression) self.old Call.Close close_answer result self.new }
     {
         self.running.close(&self.watcher)
     }
 
     // The word, and the number of closed steps.
     pub fn verdict(&self) -> (Word, u32)
-        ensures { (plain : Plain) → Represents (watching self.now.watcher) (formula self.now.expression) self.now plain → (result.1 ≡ length plain.closed) × RightWord (watching self.now.watcher) (formula self.now.expression) plain.closed result.0 }
+        ensures { (plain : Plain) → Represents (W.watching self.now.watcher) (formula self.now.expression) self.now plain → (result.1 ≡ length plain.closed) × RightWord (W.watching self.now.watcher) (formula self.now.expression) plain.closed result.0 }
     {
         self.running.verdict(&self.outlook)
     }
@@ -80,7 +80,7 @@ impl<W: Watcher> Monitor<W> {
     pub fn call(&mut self, call: Call) -> Answer
         ensures same { Same self.old self.new }
         ensures unmoved { accepts result ≡ false → self.new ≡ self.old }
-        ensures answers { Answers (watching self.old.watcher) (formula self.old.expression) self.old call result self.new }
+        ensures answers { Answers (W.watching self.old.watcher) (formula self.old.expression) self.old call result self.new }
     {
         match call {
             Call::Note(event, kind) => answered(self.note(event, kind)),

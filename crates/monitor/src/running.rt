@@ -96,7 +96,7 @@ impl Running {
 
     pub(crate) fn close<W: Watcher>(&mut self, watcher: &W) -> Result<(), Refusal>
         ensures unmoved { is_ok result ≡ false → self.new ≡ self.old }
-        ensures right { (plain : Plain) → Follows (watching watcher.now) plain self.old → (result ≡ close_answer plain) × Follows (watching watcher.now) (after (watching watcher.now).events plain Call.Close) self.new }
+        ensures right { (plain : Plain) → Follows (W.watching watcher.now) plain self.old → (result ≡ close_answer plain) × Follows (W.watching watcher.now) (after (W.watching watcher.now).events plain Call.Close) self.new }
     {
         if self.closed >= MOST_CLOSED {
             return Err(Refusal::Steps);

@@ -37,10 +37,10 @@ impl Search {
 
     // Follows the next letter of the state at the place that is looked at.
     fn look<W: Watcher>(&mut self, watcher: &W, good: &[bool; MARK_SETS])
-        requires goes { Searching (watching watcher.now) good.now self.old }
+        requires goes { Searching (W.watching watcher.now) good.now self.old }
         requires some { 0 < self.old.here }
-        requires more { item self.old.cursor (on self.old (self.old.here - 1)) < letter_count (watching watcher.now).events }
-        ensures { Stepped (watching watcher.now) good.now self.old self.new }
+        requires more { item self.old.cursor (on self.old (self.old.here - 1)) < letter_count (W.watching watcher.now).events }
+        ensures { Stepped (W.watching watcher.now) good.now self.old self.new }
     {
         let place = self.here - 1;
         let state = self.path[place as usize];
@@ -63,10 +63,10 @@ impl Search {
 
     // One step: a letter more, or a place less.
     fn step<W: Watcher>(&mut self, watcher: &W, good: &[bool; MARK_SETS], letters: u16)
-        requires all { letters ≡ letter_count (watching watcher.now).events }
-        requires goes { Searching (watching watcher.now) good.now self.old }
+        requires all { letters ≡ letter_count (W.watching watcher.now).events }
+        requires goes { Searching (W.watching watcher.now) good.now self.old }
         requires some { 0 < self.old.here }
-        ensures { Stepped (watching watcher.now) good.now self.old self.new }
+        ensures { Stepped (W.watching watcher.now) good.now self.old self.new }
     {
         let place = self.here - 1;
         let state = self.path[place as usize];
@@ -83,10 +83,10 @@ impl Search {
 
     // Goes on until the path is empty.
     fn run<W: Watcher>(&mut self, watcher: &W, good: &[bool; MARK_SETS], letters: u16)
-        requires all { letters ≡ letter_count (watching watcher.now).events }
-        requires goes { Searching (watching watcher.now) good.now self.old }
+        requires all { letters ≡ letter_count (W.watching watcher.now).events }
+        requires goes { Searching (W.watching watcher.now) good.now self.old }
         ensures idle { self.new.here ≡ 0 }
-        ensures ran { Ran (watching watcher.now) good.now self.old self.new }
+        ensures ran { Ran (W.watching watcher.now) good.now self.old self.new }
     {
         while self.here > 0 {
             self.step(watcher, good, letters);
@@ -95,12 +95,12 @@ impl Search {
 
     // Searches from the state, unless it was seen.
     fn visit<W: Watcher>(&mut self, watcher: &W, good: &[bool; MARK_SETS], letters: u16, state: u16)
-        requires all { letters ≡ letter_count (watching watcher.now).events }
-        requires goes { Searching (watching watcher.now) good.now self.old }
+        requires all { letters ≡ letter_count (W.watching watcher.now).events }
+        requires goes { Searching (W.watching watcher.now) good.now self.old }
         requires idle { self.old.here ≡ 0 }
-        requires within { state < (watching watcher.now).states }
+        requires within { state < (W.watching watcher.now).states }
         ensures idle { self.new.here ≡ 0 }
-        ensures ran { Ran (watching watcher.now) good.now self.old self.new }
+        ensures ran { Ran (W.watching watcher.now) good.now self.old self.new }
         ensures seen { at self.new.seen state ≡ true }
     {
         if self.seen[state as usize] {
@@ -114,8 +114,8 @@ impl Search {
 // For each state of the watcher, whether some endless run from there comes to rest at good marks, and whether
 // some comes to rest at others. `good` says it for each set of marks, by its bits.
 pub fn outlook<W: Watcher>(watcher: &W, good: &[bool; MARK_SETS]) -> Outlook
-    ensures keepable { Foresees (watching watcher.now) good.now true (at result.keepable) }
-    ensures breakable { Foresees (watching watcher.now) good.now false (at result.breakable) }
+    ensures keepable { Foresees (W.watching watcher.now) good.now true (at result.keepable) }
+    ensures breakable { Foresees (W.watching watcher.now) good.now false (at result.breakable) }
 {
     let sizes = watcher.sizes();
     let mut search = Search::begin();

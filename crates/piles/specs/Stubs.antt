@@ -1,5 +1,4 @@
 -- What a pile is that was built despite a no. Assumes nothing.
-use Rattle.std.specs.Prelude.{ℕ}
 use Rattle.watch.specs.Watchers.{Watching}
 
 abbrev pub stub : Watching → Watching

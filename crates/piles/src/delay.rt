@@ -29,7 +29,7 @@ fn keeps_limits(states: u16, steps: u16) -> bool
 impl<W: Watcher> Delay<W> {
     // Whether a delay by so many steps over this watcher keeps its limits.
     pub fn fits(below: &W, steps: u16) -> Result<(), Refusal>
-        ensures { Answers (fits_delay (watching below.now) steps) result }
+        ensures { Answers (fits_delay (W.watching below.now) steps) result }
     {
         if !keeps_limits(below.sizes().states, steps) {
             return Err(Refusal::Limits);
@@ -40,21 +40,21 @@ impl<W: Watcher> Delay<W> {
     pub fn new(below: W, steps: u16) -> Delay<W>
         ensures below { result.below ≡ below }
         ensures steps { result.steps ≡ steps }
-        ensures unseen { Unseen (watching below) steps }
+        ensures unseen { Unseen (W.watching below) steps }
     {
         Delay { below, steps }
     }
 
     // Follows the delay along the letters, as `watch::follow` does. What is followed is the delay of the watcher below.
     pub fn follow(&self, letters: &[u16], stands: &mut [Passed]) -> Result<MarkSet, usize>
-        ensures { Follows (delay (watching self.now.below) self.now.steps) letters.now stands.old stands.new result }
+        ensures { Follows (delay (W.watching self.now.below) self.now.steps) letters.now stands.old stands.new result }
     {
         follow(self, letters, stands)
     }
 
     // The sizes below, unless this delay is the stub.
     fn under(&self) -> Option<Sizes>
-        ensures { Under (watching self.now.below) self.now.steps result }
+        ensures { Under (W.watching self.now.below) self.now.steps result }
     {
         let sizes = self.below.sizes();
         if keeps_limits(sizes.states, self.steps) {
@@ -66,9 +66,9 @@ impl<W: Watcher> Delay<W> {
 }
 
 impl<W: Watcher> Watcher for Delay<W> {
-    ghost watching = { λ d. delay (W.Watcher.watching d.below) d.steps };
+    ghost watching = { λ d. delay (W.watching d.below) d.steps };
 
-    ghost lawful = { λ d. delay_lawful (W.Watcher.watching d.below) d.steps (W.Watcher.lawful d.below) };
+    ghost lawful = { λ d. delay_lawful (W.watching d.below) d.steps (W.lawful d.below) };
 
     fn sizes(&self) -> Sizes {
         let below = self.below.sizes();

@@ -57,7 +57,7 @@ fn beside(first: MarkSet, second: MarkSet, marks: u8, more: u8) -> MarkSet
 impl<A: Watcher, B: Watcher> Pair<A, B> {
     // Whether these two watchers can be joined.
     pub fn fits(first: &A, second: &B) -> Result<(), Refusal>
-        ensures { Answers (fits_pair (A.Watcher.watching first.now) (B.Watcher.watching second.now)) result }
+        ensures { Answers (fits_pair (A.watching first.now) (B.watching second.now)) result }
     {
         if !keeps_limits(first.sizes(), second.sizes()) {
             return Err(Refusal::Limits);
@@ -68,21 +68,21 @@ impl<A: Watcher, B: Watcher> Pair<A, B> {
     pub fn new(first: A, second: B) -> Pair<A, B>
         ensures first { result.first ≡ first }
         ensures second { result.second ≡ second }
-        ensures joined { Joined (A.Watcher.watching first) (B.Watcher.watching second) }
+        ensures joined { Joined (A.watching first) (B.watching second) }
     {
         Pair { first, second }
     }
 
     // Follows the pair along the letters, as `watch::follow` does. What is followed is the pair of the two watchers.
     pub fn follow(&self, letters: &[u16], stands: &mut [Passed]) -> Result<MarkSet, usize>
-        ensures { Follows (pair (A.Watcher.watching self.now.first) (B.Watcher.watching self.now.second)) letters.now stands.old stands.new result }
+        ensures { Follows (pair (A.watching self.now.first) (B.watching self.now.second)) letters.now stands.old stands.new result }
     {
         follow(self, letters, stands)
     }
 
     // The sizes of the two, unless this pair is the stub.
     fn sides(&self) -> Option<(Sizes, Sizes)>
-        ensures { Sides (A.Watcher.watching self.now.first) (B.Watcher.watching self.now.second) result }
+        ensures { Sides (A.watching self.now.first) (B.watching self.now.second) result }
     {
         let first = self.first.sizes();
         let second = self.second.sizes();
@@ -95,9 +95,9 @@ impl<A: Watcher, B: Watcher> Pair<A, B> {
 }
 
 impl<A: Watcher, B: Watcher> Watcher for Pair<A, B> {
-    ghost watching = { λ p. pair (A.Watcher.watching p.first) (B.Watcher.watching p.second) };
+    ghost watching = { λ p. pair (A.watching p.first) (B.watching p.second) };
 
-    ghost lawful = { λ p. pair_lawful (A.Watcher.watching p.first) (B.Watcher.watching p.second) (A.Watcher.lawful p.first) (B.Watcher.lawful p.second) };
+    ghost lawful = { λ p. pair_lawful (A.watching p.first) (B.watching p.second) (A.lawful p.first) (B.lawful p.second) };
 
     fn sizes(&self) -> Sizes {
         let first = self.first.sizes();

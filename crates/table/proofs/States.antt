@@ -1,14 +1,14 @@
 -- A list draws a lawful watcher exactly when its sizes are lawful and each of its states is. Assumes nothing.
-use Rattle.std.proofs.Common.{◌≡◌, ℕ, zero, suc, ◌+◌, ◌*◌, ◌/◌, ◌%◌, ◌^◌, ◌<◌, ◌≤◌, Bool, true, false, cond, ◌&&◌, ltb, List, [], get_or, vec_items, sym, refl, subst, arith, pow_pos}
+use Rattle.std.proofs.Common.{◌≡◌, ℕ, ◌+◌, ◌*◌, ◌^◌, ◌<◌, true, ◌&&◌, ltb, List, [], get_or, vec_items, refl, subst, arith, pow_pos}
 use mathlib.Core.Logic.{∥∥₁_elim}
-use Rattle.std.proofs.lemmas.Bool.{cond_both, cond-true, cond-false, and_parts, and_left, and_right, le-ltb, ltb-true, lt-ltb, cases_lt}
+use Rattle.std.proofs.lemmas.Bool.{cond_both, cond-true, cond-false, and_parts, and_left, and_right, le-ltb, ltb-true}
 use Rattle.watch.specs.Letters.{letter_count}
 use Rattle.watch.specs.Marks.{Has}
 use Rattle.watch.specs.Runs.{Run, Holds, passed}
-use Rattle.watch.specs.Watchers.{Watching, Lawful}
+use Rattle.watch.specs.Watchers.{Lawful}
 use Rattle.watch.proofs.Bits.{no_mark}
 use Rattle.watch.proofs.Uniqueness.{lawful_unique}
-use Rattle.table.specs.Drawings.{drawn, Head, Sized, StateLawful}
+use Rattle.table.specs.Drawings.{drawn, Head, StateLawful}
 use Rattle.table.specs.declared.table.Table.{Table}
 
 -- What the table's type carries.

@@ -1,5 +1,5 @@
 -- One set of marks lies within another exactly when their bitwise "and" is the first. Assumes nothing.
-use Rattle.std.proofs.Common.{◌≡◌, ℕ, zero, suc, ◌+◌, ◌*◌, ◌/◌, ◌%◌, ◌^◌, ◌<◌, ◌≤◌, min, Bool, true, false, eqb, Decides, sym, refl, ap, ◌∙◌, subst, ⊎_elim, arith}
+use Rattle.std.proofs.Common.{◌≡◌, ℕ, zero, suc, ◌+◌, ◌*◌, ◌/◌, ◌%◌, ◌^◌, ◌<◌, ◌≤◌, min, eqb, Decides, sym, ap, ◌∙◌, subst, ⊎_elim, arith}
 use lib.Bits.{bit_and, and_step}
 use Rattle.std.proofs.lemmas.Nat.{and_shr, and_mod, and_le_r, div-add-mod'}
 use Rattle.std.proofs.lemmas.Bool.{eqb-true, eq-eqb, cases_eq}

@@ -1,5 +1,5 @@
 -- The watcher that a list of words draws. Assumes nothing.
-use Rattle.std.specs.Prelude.{◌≡◌, ℕ, ◌+◌, ◌*◌, ◌^◌, ◌<◌, ◌≤◌, Bool, cond, ◌&&◌, List, length, nat_lt, slice_index, slice_index_or}
+use Rattle.std.specs.Prelude.{◌≡◌, ℕ, ◌+◌, ◌*◌, ◌^◌, ◌<◌, ◌≤◌, cond, ◌&&◌, List, length, nat_lt, slice_index, slice_index_or}
 use Rattle.watch.specs.Letters.{letter_count, most_events}
 use Rattle.watch.specs.Marks.{Has}
 use Rattle.watch.specs.Watchers.{Watching, most_marks}

@@ -3,7 +3,8 @@ ghost use Rattle.std.specs.Prelude.{◌≡◌, ℕ, ◌<◌};
 ghost use Rattle.watch.specs.Watchers.{Lawful};
 ghost use Rattle.watch.specs.Sizes.{sizes_of};
 ghost use Rattle.table.specs.Drawings.{drawn};
-ghost use Rattle.std.proofs.Common.{rules, arith};
+ghost use mathlib.Core.Logic.{∥∥₁_elim};
+ghost use Rattle.watch.proofs.Uniqueness.{lawful_unique};
 
 use crate::drawing::Drawing;
 use std::alloc::Global;
@@ -35,7 +36,7 @@ impl Table {
 impl Watcher for Table {
     ghost watching = { λ t. drawn t.words.items };
 
-    ghost lawful = { first_of (Prim.search rules, Prim.grind (arith, Self.row.coded.inj)) };
+    ghost lawful = { λ t. ∥∥₁_elim t.lawful (lawful_unique (drawn t.words.items)) (λ law. law) };
 
     fn sizes(&self) -> Sizes {
         self.sizes

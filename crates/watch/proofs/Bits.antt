@@ -1,6 +1,6 @@
 -- Sets of marks as numbers: single marks, subsets, and two sets beside each other. Assumes nothing.
-use Rattle.std.proofs.Common.{◌≡◌, ℕ, zero, suc, ◌+◌, ◌-◌, ◌*◌, ◌/◌, ◌%◌, ◌^◌, ◌<◌, ◌≤◌, Bool, true, false, eqb, ◌⊎◌, sym, refl, ap, ◌∙◌, inl, inr, ⊎_elim, mul_comm, pow-suc, div-one, arith}
-use native.Mathlib.Nat.{div-div-eq-div-mul, div-eq_of_lt, zero-div}
+use Rattle.std.proofs.Common.{◌≡◌, ℕ, zero, suc, ◌-◌, ◌/◌, ◌%◌, ◌^◌, ◌<◌, true, false, eqb, ◌⊎◌, refl, ap, ◌∙◌, inl, inr, ⊎_elim, arith}
+use native.Mathlib.Nat.{div-eq_of_lt, zero-div}
 use lib.Bits.{bit_and}
 use Rattle.std.proofs.lemmas.Nat.{and_mask, pow_below}
 use Rattle.std.proofs.lemmas.Bool.{eqb-true, eq-eqb, cases_eq}

@@ -1,13 +1,12 @@
 -- One step more along the letters. Assumes nothing.
-use Rattle.std.proofs.Common.{◌≡◌, ℕ, zero, suc, ◌+◌, ◌-◌, ◌^◌, ◌<◌, ◌≤◌, min, false, ◌≢◌, ◌⊎◌, List, length, get_or, drop, set, sym, refl, ap, ◌∙◌, subst, inl, inr, ⊎_elim, add-zero, add-suc, add-one, arith, get_or-set_other, get_or-set_same, pow_mono}
+use Rattle.std.proofs.Common.{◌≡◌, ℕ, zero, suc, ◌+◌, ◌-◌, ◌<◌, min, ◌⊎◌, List, length, get_or, drop, set, sym, refl, ap, ◌∙◌, subst, inl, inr, ⊎_elim, add-zero, add-suc, add-one, arith, get_or-set_other, get_or-set_same, pow_mono}
 use Rattle.std.proofs.lemmas.List.{drop-set-lt, drop-drop}
 use Rattle.std.proofs.lemmas.Bool.{cases_eq}
-use Rattle.watch.specs.Exactly.{Exactly}
 use Rattle.watch.specs.Letters.{letter_count}
 use Rattle.watch.specs.Marks.{Has, has}
 use Rattle.watch.specs.Runs.{Run, Continues, passed, Holds}
 use Rattle.watch.specs.Watchers.{Watching, Lawful}
-use Rattle.watch.specs.Following.{Within, AppearsBy, stand, Followed}
+use Rattle.watch.specs.Following.{Within, stand, Followed}
 use Rattle.watch.specs.declared.following.Passed.{Passed}
 use Rattle.watch.specs.declared.marks.MarkSet.{MarkSet}
 use Rattle.watch.proofs.Bits.{has_from, has_past}

@@ -1,5 +1,5 @@
 -- Sets of marks, as numbers. Assumes nothing.
-use Rattle.std.specs.Prelude.{◌≡◌, ℕ, zero, suc, ◌/◌, ◌%◌, ◌^◌, Bool, true, false, ◌==◌}
+use Rattle.std.specs.Prelude.{◌≡◌, ℕ, zero, suc, ◌/◌, ◌%◌, ◌^◌, Bool, false, ◌==◌}
 
 -- The set has the mark: mark 1 is the lowest bit, and there is no mark 0.
 abbrev pub Has : ℕ → ℕ → Type 0

@@ -12,10 +12,10 @@ two t c = ⊎_elim (ap operands) (⊎_elim (ap operands) (ap operands)) c.in-And
 pub returns-then-at-words : goal.returns-then-at-words
 returns-then-at-words t c = past_end c.args.words.now c.args.at c.if-at-words.true
 
-pub returns-in_err-second : goal.returns-in_err-second
-returns-in_err-second t c =
-    rw c.from-residual.ensures
-    (first_missing c.args.words.now c.args.at _ And c.if-at-words.false refl (two t (goal.at.returns-in_err-second t c).In-And) c.in_err-second.ensures)
+pub returns-in_err-second-in-And : goal.returns-in_err-second-in-And
+returns-in_err-second-in-And t c =
+    rw c.from_residual.ensures
+    (first_missing c.args.words.now c.args.at _ And c.if-at-words.false refl (two t (goal.at.returns-in_err-second-in-And t c).In-And) c.in_err-second-in-And.ensures)
 
 pub returns-in-Term : goal.returns-in-Term
 returns-in-Term t c = term_ends c.args.words.now c.args.at _ c.if-at-words.false _ c.in-Term.is
@@ -23,6 +23,6 @@ returns-in-Term t c = term_ends c.args.words.now c.args.at _ c.if-at-words.false
 pub returns-in-Not : goal.returns-in-Not
 returns-in-Not t c = not_ends c.args.words.now c.args.at _ c.if-at-words.false c.end_of.result c.in-Not.is c.end_of.ensures
 
-pub returns-in_ok-second : goal.returns-in_ok-second
-returns-in_ok-second t c =
-    two_end c.args.words.now c.args.at _ And c.if-at-words.false refl c.in_ok-second.second c.end_of-in-And-2.result (two t (goal.at.returns-in_ok-second t c).In-And) c.in_ok-second.ensures c.end_of-in-And-2.ensures
+pub returns-in_ok-second-in-And : goal.returns-in_ok-second-in-And
+returns-in_ok-second-in-And t c =
+    two_end c.args.words.now c.args.at _ And c.if-at-words.false refl c.in_ok-second-in-And.second c.end_of-in-And-2.result (two t (goal.at.returns-in_ok-second-in-And t c).In-And) c.in_ok-second-in-And.ensures c.end_of-in-And-2.ensures

@@ -14,13 +14,13 @@ from_start ts len o h = subst (λ (n : ℕ). EndOf (take n ts) 0 o) (sub-zero le
 
 pub returns-in_err-draft : goal.returns-in_err-draft
 returns-in_err-draft c =
-    rw c.from-residual.ensures
+    rw c.from_residual.ensures
     (λ f fits e. c.in_err-draft.ensures (written f) fits.0 fits.1 (sym (ap words e ∙ words_writing f fits.1)))
 
 pub returns-in_err-end : goal.returns-in_err-end
 returns-in_err-end c =
     let d = c.in_ok-draft.draft in
-    rw c.from-residual-in_err-end.ensures
+    rw c.from_residual-in_err-end.ensures
     (none_whole c.args.line.now d.words d.len c.in_ok-draft.ensures
     (from_start d.words d.len None c.in_err-end.ensures))
 
@@ -37,7 +37,7 @@ to_end ts len end h e = subst (λ (n : ℕ). EndOf (take len ts) 0 (Some n)) e (
 pub invariant_of-result : goal.invariant_of-result
 invariant_of-result c =
     let d = c.in_ok-draft.draft in
-    (is_formed c.args.line.now d.words d.len c.in_ok-draft.ensures (to_end d.words d.len c.in_ok-end.end c.in_ok-end.ensures c.if-end-draft.false), tt)
+    record { ok = is_formed c.args.line.now d.words d.len c.in_ok-draft.ensures (to_end d.words d.len c.in_ok-end.end c.in_ok-end.ensures c.if-end-draft.false) }
 
 pub returns : goal.returns
 returns c =

@@ -11,8 +11,8 @@ use Rattle.expression.proofs.show.show.Goals.{then-i-ne0+in_ok-write_str, else-i
 pub loop-i-preserved : goal.loop-i-preserved
 loop-i-preserved g c plain =
     elim c.if-i-ne0.branch [
-      | then-i-ne0+in_ok-write_str w ↦ write_next c.args.words.now c.loop-i.i _ c.loop-i-test.true g.W.Write.write_str_gives c.args.f.now c.loop-i.f c.if-i-ne0.f c.write.new.self (c.loop-i.invariant plain) (λ p. c.in_ok-write.ensures.shows p refl) w.if-i-ne0.true w.write_str.new.self (λ p. w.in_ok-write_str.ensures.writes p refl) w.f-is
-      | else-i-ne0 w ↦ write_first c.args.words.now c.loop-i.i _ c.loop-i-test.true g.W.Write.write_str_gives c.args.f.now c.loop-i.f c.if-i-ne0.f c.write.new.self (c.loop-i.invariant plain) (λ p. c.in_ok-write.ensures.shows p refl) w.if-i-ne0.false w.f-is
+      | then-i-ne0+in_ok-write_str w ↦ write_next c.args.words.now c.loop-i.i _ c.loop-i-test.true g.W.Write.write_str_gives c.args.f.now c.loop-i.f c.if-i-ne0.f c.write.new.self (c.loop-i.invariant plain) (λ p. c.in_ok-write.ensures.writes p refl) w.if-i-ne0.true w.write_str.new.self (λ p. w.in_ok-write_str.ensures.writes p refl) w.f-is
+      | else-i-ne0 w ↦ write_first c.args.words.now c.loop-i.i _ c.loop-i-test.true g.W.Write.write_str_gives c.args.f.now c.loop-i.f c.if-i-ne0.f c.write.new.self (c.loop-i.invariant plain) (λ p. c.in_ok-write.ensures.writes p refl) w.if-i-ne0.false w.f-is
     ]
 
 pub returns : goal.returns

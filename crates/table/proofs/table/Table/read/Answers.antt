@@ -1,4 +1,4 @@
-use Rattle.std.proofs.Common.{◌≡◌, ℕ, true, false, List, sym, refl, ap, ◌∙◌, subst, arith}
+use Rattle.std.proofs.Common.{◌≡◌, ℕ, List, refl, ap, ◌∙◌, subst, arith}
 use Rattle.watch.specs.Sizes.{sizes_of}
 use Rattle.watch.specs.Watchers.{Lawful}
 use Rattle.table.specs.Drawings.{drawn, Sized}
@@ -8,7 +8,7 @@ use Rattle.table.proofs.table.Table.read.Goals as goal
 pub invariant_of-drop : goal.invariant_of-drop
 invariant_of-drop c =
     let is = c.as_slice-list.ensures.value in
-    (c.in-Some.ensures.1 ∙ ap (λ (words : List ℕ). sizes_of (drawn words)) is, (∣ subst (λ (words : List ℕ). Lawful (drawn words)) is (all_lawful _ c.in-Some.ensures.0.head (c.is_lawful.ensures.0 c.if-not-is_lawful.false)) ∣₁, tt))
+    record { sized = c.in-Some.ensures.1 ∙ ap (λ (words : List ℕ). sizes_of (drawn words)) is; lawful = ∣ subst (λ (words : List ℕ). Lawful (drawn words)) is (all_lawful _ c.in-Some.ensures.0.head (c.is_lawful.ensures.0 c.if-not-is_lawful.false)) ∣₁ }
 
 pub returns-then-not-is_lawful : goal.returns-then-not-is_lawful
 returns-then-not-is_lawful c =

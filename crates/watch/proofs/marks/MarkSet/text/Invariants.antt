@@ -1,4 +1,4 @@
-use Rattle.std.proofs.Common.{◌≡◌, ◌-◌, ◌≤◌, string_bytes}
+use Rattle.std.proofs.Common.{◌≡◌, ◌-◌, string_bytes}
 use Rattle.watch.specs.MarkTexts.{marks_upto}
 use Rattle.watch.proofs.marks.MarkSet.text.Given as goal
 
