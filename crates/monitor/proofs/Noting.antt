@@ -1,5 +1,5 @@
 -- The running record takes notes and closings as the plain monitor does. Assumes nothing.
-use Rattle.std.proofs.Common.{◌≡◌, ℕ, zero, suc, ◌+◌, ◌*◌, ◌^◌, ◌<◌, ◌≤◌, Bool, true, false, cond, ◌&&◌, ◌||◌, eqb, ltb, ◌⊎◌, List, [], ◌∷◌, ◌++◌, length, get_or, set, is_ok, Ok, Err, Result, sym, refl, ap, ◌∙◌, subst, ap₂, inl, inr, ⊎_elim, arith, length-set}
+use Rattle.std.proofs.Common.{◌≡◌, ℕ, zero, suc, ◌+◌, ◌*◌, ◌^◌, ◌<◌, ◌≤◌, Bool, true, false, cond, ◌&&◌, ◌||◌, eqb, ltb, List, [], ◌∷◌, ◌++◌, length, get_or, set, is_ok, Ok, Err, Result, sym, refl, ap, ◌∙◌, subst, ap₂, ⊎_elim, arith, length-set}
 use mathlib.Core.Bool as bool
 use mathlib.Core.Bool.{or-false, or_assoc}
 use Rattle.std.proofs.lemmas.List.{get_or-set_same, get_or-set_other, length_push}
@@ -12,7 +12,7 @@ use Rattle.monitor.specs.inner.Running.{Follows, reached, Spelled, spelt}
 use Rattle.monitor.specs.declared.running.Running.{Running}
 use Rattle.monitor.specs.declared.refusal.Refusal.{Refusal}
 use Rattle.monitor.specs.declared.refusal.Refusal.TheVariants.{Event, Noted, Steps}
-use Rattle.monitor.specs.declared.calls.Call.TheVariants.{Note, Close, Ask}
+use Rattle.monitor.specs.declared.calls.Call.TheVariants.{Note, Close}
 
 letter_more : (ns : List NoteOf) (n : NoteOf) → letter (ns ++ (n ∷ [])) ≡ letter ns + n.kind * (digits ^ n.event)
 letter_more [] n = omega arith

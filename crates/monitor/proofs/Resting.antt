@@ -1,11 +1,10 @@
 -- On every endless run the marks come to rest, and there the formula has the value that it has on the run.
 -- Assumes nothing.
-use Rattle.std.proofs.Common.{◌≡◌, ℕ, zero, suc, ◌+◌, ◌-◌, ◌^◌, ◌<◌, ◌≤◌, Bool, true, false, ◌⊎◌, Decides, sym, refl, ap, ◌∙◌, subst, inl, inr, ⊎_elim, add-zero, add-suc, arith}
-use Rattle.std.proofs.lemmas.Bool.{cases_eq, cases_lt}
+use Rattle.std.proofs.Common.{◌≡◌, ℕ, zero, suc, ◌+◌, ◌-◌, ◌^◌, ◌<◌, ◌≤◌, Decides, sym, ap, ◌∙◌, subst, ⊎_elim, add-zero, add-suc, arith}
+use Rattle.std.proofs.lemmas.Bool.{cases_eq}
 use Rattle.watch.specs.Exactly.{Exactly}
-use Rattle.watch.specs.Letters.{letter_count}
 use Rattle.watch.specs.Marks.{Has}
-use Rattle.watch.specs.Runs.{Run, Over, passed_from, passed, later, Holds}
+use Rattle.watch.specs.Runs.{Run, Over, passed_from, later, Holds}
 use Rattle.watch.specs.Watchers.{Watching, Lawful}
 use Rattle.watch.proofs.Subsets.{subset_le}
 use Rattle.expression.specs.Formulas.{Formula, term, not, and, or, implies, TrueOf}

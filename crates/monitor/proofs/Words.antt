@@ -1,10 +1,10 @@
 -- The word read off the outlook is the right one. Assumes nothing.
-use Rattle.std.proofs.Common.{◌≡◌, ℕ, zero, suc, ◌+◌, ◌-◌, ◌^◌, ◌<◌, ◌≤◌, Bool, true, false, ◌⊎◌, List, [], ◌∷◌, length, get_or, sym, refl, ap, ◌∙◌, subst, inl, inr, ⊎_elim, arith}
+use Rattle.std.proofs.Common.{◌≡◌, ℕ, zero, suc, ◌+◌, ◌<◌, Bool, true, false, List, [], ◌∷◌, length, sym, refl, ap, ◌∙◌, subst, ⊎_elim, arith}
 use native.Mathlib.Nat.{one-le-pow}
 use Rattle.std.proofs.lemmas.Bool.{cases_Bool, both_ways}
 use Rattle.watch.specs.Exactly.{Exactly}
 use Rattle.watch.specs.Letters.{digits, letter_count}
-use Rattle.watch.specs.Runs.{Run, Over, Continues, passed_from, passed, later}
+use Rattle.watch.specs.Runs.{Run, Over, Continues, passed_from, later}
 use Rattle.watch.specs.Watchers.{Watching, Lawful}
 use Rattle.watch.proofs.Walking.{shown_byte}
 use Rattle.expression.specs.Formulas.{Formula}
@@ -12,11 +12,10 @@ use Rattle.expression.specs.Values.{eval}
 use Rattle.outlook.specs.Outlooks.{at, Rests, Foresees}
 use Rattle.outlook.proofs.Resting.{ahead, over_ahead, rests_ahead}
 use Rattle.outlook.specs.declared.chart.Outlook.{Outlook}
-use Rattle.monitor.specs.Keeping.{Keeps, NoneKeeps, NoneBreaks}
+use Rattle.monitor.specs.Keeping.{NoneKeeps, NoneBreaks}
 use Rattle.monitor.specs.Words.{RightWord}
 use Rattle.monitor.specs.inner.Running.{reached, Spelled, word_of}
 use Rattle.monitor.specs.inner.Standing.{Foretells}
-use Rattle.monitor.specs.declared.word.Word.TheVariants.{Open, Satisfied, Violated}
 use Rattle.monitor.proofs.Resting.{passed_later, rests_somewhere, keeps_at_rest}
 
 -- The closed steps, and then the run.

@@ -1,5 +1,5 @@
 -- How a monitor stands for the plain monitor. Assumes nothing.
-use Rattle.std.specs.Prelude.{◌≡◌, ℕ, ◌<◌, Bool, true, false, List, [], ◌∷◌, is_ok, Result}
+use Rattle.std.specs.Prelude.{◌≡◌, ℕ, ◌<◌, Bool, true, false, List, [], ◌∷◌, Result}
 use Rattle.watch.specs.Watchers.{Watching}
 use Rattle.expression.specs.Formulas.{Formula}
 use Rattle.expression.specs.Values.{eval}

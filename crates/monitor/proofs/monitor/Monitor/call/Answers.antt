@@ -1,4 +1,4 @@
-use Rattle.std.proofs.Common.{◌≡◌, sym, refl, ap, subst}
+use Rattle.std.proofs.Common.{sym, refl, ap, subst}
 use Rattle.expression.specs.Expressions.{formula}
 use Rattle.monitor.specs.Plain.{RightAnswer, after}
 use Rattle.monitor.specs.inner.Standing.{Represents}

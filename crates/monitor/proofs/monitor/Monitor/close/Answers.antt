@@ -1,5 +1,4 @@
-use Rattle.std.proofs.Common.{is_ok, refl, ap}
-use Rattle.monitor.specs.declared.monitor.Monitor.{Monitor}
+use Rattle.std.proofs.Common.{refl, ap}
 use Rattle.monitor.specs.declared.running.Running.{Running}
 use Rattle.monitor.proofs.monitor.Monitor.close.Goals as goal
 

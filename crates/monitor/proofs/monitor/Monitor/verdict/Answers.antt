@@ -1,4 +1,4 @@
-use Rattle.std.proofs.Common.{◌≡◌, ℕ, sym, ap, ◌∙◌, subst}
+use Rattle.std.proofs.Common.{ℕ, sym, ap, ◌∙◌, subst}
 use Rattle.expression.specs.Expressions.{formula}
 use Rattle.outlook.specs.Outlooks.{at}
 use Rattle.monitor.specs.Words.{RightWord}
