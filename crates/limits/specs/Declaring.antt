@@ -5,7 +5,6 @@ use Rattle.text.specs.Clean.{every}
 use Rattle.text.specs.Lists.{some}
 use Rattle.text.specs.Names.{name_bytes}
 use Rattle.osl.specs.declared.event.Event.{Event}
-use Rattle.osl.specs.declared.event.Param.{Param}
 use Rattle.osl.specs.declared.event.Pattern.{Pattern}
 use Rattle.osl.specs.declared.row.Test.{Test}
 use Rattle.osl.specs.declared.row.Test.TheVariants.{True, False, First, Any, NoFirst, NoAny}

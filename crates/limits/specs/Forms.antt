@@ -1,7 +1,7 @@
 -- What is asked of an event or a row by itself. Assumes nothing.
 use Rattle.std.specs.Prelude.{ℕ, Bool, true, not, ◌&&◌, vec_items, vec_len, nat_le, nat_lt}
 use Rattle.std.specs.Str.{bytes_eq}
-use Rattle.text.specs.Lists.{some, apart}
+use Rattle.text.specs.Lists.{some}
 use Rattle.text.specs.Names.{name_bytes}
 use Rattle.osl.specs.declared.event.Event.{Event}
 use Rattle.osl.specs.declared.event.Param.{Param}

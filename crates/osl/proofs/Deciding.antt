@@ -1,7 +1,7 @@
 -- The tests of a step decide what they stand for. Assumes nothing.
-use Rattle.std.proofs.Common.{◌≡◌, ℕ, zero, suc, ◌+◌, ◌<◌, ◌≤◌, Bool, true, false, cond, not, ◌&&◌, ◌||◌, eqb, ◌⊎◌, ◌↔◌, List, [], ◌∷◌, Decides, sym, refl, ap, ◌∙◌, subst, ap₂, inl, inr, ⊎_elim, true≢false, arith}
+use Rattle.std.proofs.Common.{◌≡◌, ℕ, Bool, true, false, not, ◌&&◌, ◌||◌, List, [], ◌∷◌, Decides, sym, refl, ap, subst, inl, inr, ⊎_elim, arith}
 use mathlib.Core.Bool.{false≢true}
-use Rattle.std.proofs.lemmas.Bool.Decides.{Decides-eqb, Decides-and, Decides-or, Decides-not, Decides-like, not_from_Decides}
+use Rattle.std.proofs.lemmas.Bool.Decides.{Decides-and, Decides-or, Decides-not, Decides-like, not_from_Decides}
 use Rattle.std.proofs.lemmas.Bool.{or_cases, or_parts}
 use Rattle.std.proofs.lemmas.Slice.Eq.{bytes_eq-Decides}
 use Rattle.std.specs.Str.{bytes_eq}
@@ -9,7 +9,7 @@ use Rattle.watch.specs.Classical.{Exists}
 use Rattle.osl.specs.Osl as osl
 use Rattle.osl.specs.Osl.{◌∈◌, Word, Params, Class, usage, other, Event, Index, start, ongoing, IndEvent, Formula, ◌refines◌, Satisfies, same_pair, has, within_params, refines?, is_start, satisfies?}
 use Rattle.osl.specs.Osl.{True, False, First, Any, Not, And, Or, Implies, Until, Always, After, Within, During, RepMax, RepUntil, PermitOnlyEvName, PermitOnlyParam}
-use Rattle.osl.specs.Matching.{listed, stray_pair, strays}
+use Rattle.osl.specs.Matching.{listed, strays}
 
 -- some indexed event of a step satisfies an event expression
 abbrev pub happens : Formula → List IndEvent → Bool

@@ -1,10 +1,9 @@
 -- Every formula is stable, and the operators that OSL gives by others are those. Assumes nothing.
-use Rattle.std.proofs.Common.{◌≡◌, ℕ, zero, suc, ◌+◌, ◌<◌, ◌≤◌, ◌⊎◌, ◌↔◌, List, [], ◌∷◌, sym, refl, subst, inl, inr, arith}
+use Rattle.std.proofs.Common.{ℕ, zero, suc, ◌+◌, ◌≤◌, ◌↔◌, sym, subst, inl, inr, arith}
 use Rattle.std.proofs.lemmas.Bool.{cases_lt, cases_order}
-use Rattle.watch.specs.Classical.{Either, Exists}
-use Rattle.osl.specs.Osl.{Word, Class, Trace, Formula, Holds, Countable, total}
+use Rattle.osl.specs.Osl.{Word, Class, Trace, Formula, Holds, total}
 use Rattle.osl.specs.Osl.{True, False, First, Any, Not, And, Or, Implies, Until, Always, After, Within, During, RepMax, RepUntil, PermitOnlyEvName, PermitOnlyParam}
-use Rattle.osl.specs.Published.{some_of, each_of, Published, AsPublished}
+use Rattle.osl.specs.Published.{some_of, each_of, AsPublished}
 
 stable_le : (m n : ℕ) → ((m ≤ n → ⊥) → ⊥) → m ≤ n
 stable_le m n h = elim (cases_lt n m) [ inl lt ↦ absurd (h (λ le. omega arith)) | inr le ↦ le ]

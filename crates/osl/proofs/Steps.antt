@@ -1,6 +1,6 @@
 -- The steps of a trace are sets. Assumes nothing.
-use Rattle.std.proofs.Common.{◌≡◌, ℕ, zero, suc, Bool, true, false, cond, eqb, ◌⊎◌, List, [], ◌∷◌, ◌++◌, map, sym, refl, ap, subst, inl, inr, ⊎_elim}
-use Rattle.osl.specs.Osl.{Event, IndEvent, Index, start, ongoing, ◌∈◌}
+use Rattle.std.proofs.Common.{◌≡◌, ℕ, suc, Bool, true, false, cond, eqb, ◌⊎◌, List, [], ◌∷◌, ◌++◌, map, refl, ap, subst, inl, inr, ⊎_elim}
+use Rattle.osl.specs.Osl.{Event, IndEvent, start, ongoing, ◌∈◌}
 use Rattle.osl.specs.Terms.{as_event}
 use Rattle.osl.specs.Traces.{digit, entries, entries_from}
 use Rattle.osl.specs.Sets.{SameEvent, SameEntry, Apart, StepsAreSets, CountsAreSizes}

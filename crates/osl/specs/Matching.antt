@@ -3,7 +3,6 @@ use Rattle.std.specs.Prelude.{ℕ, zero, suc, Bool, true, false, not, ◌&&◌, 
 use Rattle.std.specs.Str.{bytes_eq}
 use Rattle.text.specs.Lists.{some}
 use Rattle.text.specs.Names.{name_bytes}
-use Rattle.watch.specs.Letters.{most_events}
 use Rattle.osl.specs.declared.event.Class.{Class}
 use Rattle.osl.specs.declared.event.Class.TheVariants.{Use, Other}
 use Rattle.osl.specs.declared.event.Event.{Event}

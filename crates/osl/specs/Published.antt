@@ -1,6 +1,6 @@
 -- OSL gives some operators by others. In Osl.antt each is written out; these are the equations by which OSL gives them, so that both can be
 -- compared line by line. Assumes nothing.
-use Rattle.std.specs.Prelude.{◌≡◌, ℕ, zero, suc, ◌↔◌, List, [], ◌∷◌}
+use Rattle.std.specs.Prelude.{◌≡◌, ℕ, zero, suc, ◌↔◌, List, ◌∷◌}
 use Rattle.osl.specs.Osl.{Word, Class, usage, Params, Trace, Formula, Holds, ◌∈◌}
 use Rattle.osl.specs.Osl.{True, False, Any, Not, And, Or, Implies, Until, Always, After, Within, During, RepMax, RepUntil, PermitOnlyEvName, PermitOnlyParam}
 

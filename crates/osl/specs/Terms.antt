@@ -1,5 +1,5 @@
 -- What a row says, as a formula of OSL. Assumes nothing.
-use Rattle.std.specs.Prelude.{List, [], ◌∷◌, map, vec_items}
+use Rattle.std.specs.Prelude.{List, map, vec_items}
 use Rattle.text.specs.Names.{name_bytes}
 use Rattle.text.specs.declared.name.Name.{Name}
 use Rattle.osl.specs.declared.event.Param.{Param}

@@ -18,7 +18,7 @@ pub struct EventSet {
 
 // Whether there is an event at the place, and the question chooses it.
 fn is_chosen<Q: Asks<Event>>(question: &Q, events: &[Event], place: usize) -> bool
-    ensures { result ≡ flag_at (asks question.now) events.now place }
+    ensures { result ≡ flag_at (Q.asks question.now) events.now place }
 {
     place < events.len() && question.ask(&events[place])
 }
@@ -30,7 +30,7 @@ impl EventSet {
 
     // The events that the question chooses, of those that have a place.
     pub(crate) fn of<Q: Asks<Event>>(question: &Q, events: &[Event]) -> EventSet
-        ensures { result ≡ set_of (asks question.now) events.now }
+        ensures { result ≡ set_of (Q.asks question.now) events.now }
     {
         EventSet {
             flags: [

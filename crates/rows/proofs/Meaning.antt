@@ -1,5 +1,5 @@
 -- Every row's automaton is never broken exactly when the row's formula holds at step 0. Assumes nothing.
-use Rattle.std.proofs.Common.{◌≡◌, ℕ, zero, suc, ◌+◌, ◌<◌, ◌≤◌, Bool, true, false, cond, not, ◌&&◌, ltb, ◌⊎◌, ◌↔◌, List, [], ◌∷◌, length, vec_items, Decides, sym, refl, ap, ◌∙◌, subst, inl, inr, ⊎_elim, zero-le, zero-add}
+use Rattle.std.proofs.Common.{◌≡◌, ℕ, suc, ◌+◌, ◌<◌, ◌≤◌, Bool, not, ◌&&◌, ltb, ◌↔◌, List, [], ◌∷◌, length, vec_items, Decides, sym, refl, ap, ◌∙◌, subst, inl, inr, ⊎_elim, zero-le, zero-add}
 use mathlib.Core.Path.{fun_ext}
 use mathlib.Core.Bool.{false≢true}
 use Rattle.std.proofs.lemmas.Bool.Decides.{Decides-not, Decides-at}
@@ -23,7 +23,7 @@ use Rattle.osl.specs.declared.row.Row.TheVariants.{Until, Always, After, Within,
 use Rattle.osl.specs.Osl as osl
 use Rattle.osl.specs.Osl.{◌∈◌, Word, Params, IndEvent, Trace, Formula, Holds, Countable, within_params, count, sum, total, usage}
 use Rattle.osl.specs.Terms.{words, pairs, as_event, as_class, as_pattern, as_test, as_count, row_formula}
-use Rattle.osl.specs.Traces.{happening, trace, class_of}
+use Rattle.osl.specs.Traces.{trace, class_of}
 use Rattle.osl.specs.Matching.{matches, is_use, listed, names_forbid, values_forbid}
 use Rattle.osl.specs.Resolving.{set_of, test_set, count_set, matched_by}
 use Rattle.osl.proofs.Deciding.{happens, none, is_usage, stray_name, stray_param, happens_decides, none_decides, stray_name_decides, stray_param_decides}

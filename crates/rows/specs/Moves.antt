@@ -1,6 +1,6 @@
 -- The moves of the row automata, on what the tests and the count of a row are in one step. The states below a limit count. A state at
 -- or above the limit, kept or broken, is never left. Assumes nothing.
-use Rattle.std.specs.Prelude.{◌≡◌, ℕ, zero, suc, ◌+◌, Bool, true, false, cond, ◌≢◌, nat_le, nat_lt}
+use Rattle.std.specs.Prelude.{ℕ, zero, suc, ◌+◌, Bool, cond, ◌≢◌, nat_le, nat_lt}
 
 -- until: 0 waits, 1 is kept, 2 is broken
 abbrev pub until_move : Bool → Bool → ℕ → ℕ

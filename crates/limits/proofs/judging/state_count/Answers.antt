@@ -1,4 +1,4 @@
-use Rattle.std.proofs.Common.{◌≡◌, ◌+◌, ◌*◌, sym, ◌∙◌, arith}
+use Rattle.std.proofs.Common.{◌+◌, ◌*◌, ◌∙◌, arith}
 use Rattle.limits.proofs.Products.{product_more, product_least, product_all}
 use Rattle.limits.proofs.judging.state_count.Goals as goal
 

@@ -1,4 +1,4 @@
-use Rattle.std.proofs.Common.{◌≡◌, false, ltb, length, sym, ◌∙◌}
+use Rattle.std.proofs.Common.{length, ◌∙◌}
 use Rattle.std.proofs.lemmas.Bool.{le-ltb}
 use Rattle.osl.proofs.Places.{flag_here, flag_past}
 use Rattle.osl.proofs.choosing.is_chosen.Goals as goal

@@ -1,4 +1,4 @@
-use Rattle.std.proofs.Common.{◌≡◌, List, sym, ap, ◌∙◌}
+use Rattle.std.proofs.Common.{List, sym, ◌∙◌}
 use Rattle.osl.specs.declared.event.Param.{Param}
 use Rattle.text.specs.Names.{name_bytes}
 use Rattle.osl.specs.Terms.{pairs}

@@ -1,4 +1,4 @@
-use Rattle.std.proofs.Common.{arith, rules}
+use Rattle.std.proofs.Common.{arith}
 use Rattle.rows.proofs.Tallies.{tally_more, tally_all}
 use Rattle.rows.proofs.counting.count.Goals as goal
 
