@@ -1,5 +1,5 @@
 -- The lines of a list of entries are those of a run that the list follows. Assumes nothing.
-use Rattle.std.proofs.Common.{◌≡◌, ℕ, zero, suc, ◌+◌, ◌<◌, ◌≤◌, min, List, [], ◌∷◌, ◌++◌, length, get_or, sym, refl, ap, ◌∙◌, subst, add-one, arith}
+use Rattle.std.proofs.Common.{◌≡◌, ℕ, zero, suc, ◌+◌, ◌<◌, min, List, ◌++◌, length, get_or, sym, refl, ap, ◌∙◌, subst, add-one, arith}
 use Rattle.watch.specs.Exactly.{Exactly}
 use Rattle.watch.specs.Following.{stand, AppearsBy, Followed}
 use Rattle.watch.specs.Marks.{Has}

@@ -1,5 +1,5 @@
 -- The record of an evening, as it is printed. Assumes nothing.
-use Rattle.std.specs.Prelude.{◌≡◌, ℕ, zero, suc, List, [], ◌∷◌, ◌++◌, length, Some, None, Ok, Err, string_bytes, codes, decimal, Result, String, slice_index_or}
+use Rattle.std.specs.Prelude.{◌≡◌, ℕ, zero, suc, List, [], ◌++◌, length, Some, None, Ok, Err, string_bytes, codes, decimal, Result, String, slice_index_or}
 use Rattle.std.specs.declared.alloc.Global.{Global}
 use Rattle.watch.specs.Exactly.{Exactly}
 use Rattle.watch.specs.Following.{Stray, AppearsBy, stand}

@@ -17,7 +17,7 @@ fn with_words<W: Watcher + Drop>(
     expression: Expression,
     letters: &[u16],
 ) -> Result<String, AllocError>
-    ensures { IfOk result (λ whole. Behind (watching watcher) (formula expression) letters.now (string_bytes text) (string_bytes whole)) }
+    ensures { IfOk result (λ whole. Behind (W.watching watcher) (formula expression) letters.now (string_bytes text) (string_bytes whole)) }
 {
     let words = words(heap, watcher, expression, letters)?;
     text.push_str(words.as_str())?;
@@ -31,7 +31,7 @@ pub fn whole_text<W: Watcher + Drop>(
     expression: Option<Expression>,
     letters: &[u16],
 ) -> Result<String, Fault>
-    ensures { Evening (watching watcher) letters.now result expression }
+    ensures { Evening (W.watching watcher) letters.now result expression }
 {
     let text = record(heap, &watcher, letters)?;
     let Some(expression) = expression else {

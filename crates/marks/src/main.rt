@@ -17,6 +17,7 @@ use expression::Expression;
 use input::{letters_of, words_of};
 use record::Fault;
 use std::alloc::{AllocError, Global};
+use std::process::ExitCode;
 use std::{fs, io};
 use table::Table;
 use watch::Watcher;
@@ -63,7 +64,7 @@ fn report(
     let count = table.sizes().letters;
     match whole_text(heap, table, expression, letters) {
         Ok(text) => Ok(text),
-        Err(Fault::Letter(place)) => Err(stray_letter(heap, place, count)?.into()),
+        Err(Fault::Letter(place)) => Err(anyhow!(stray_letter(heap, place, count)?)),
         Err(Fault::Memory) => Err(anyhow!("there is not enough memory for the text")),
     }
 }
@@ -86,10 +87,12 @@ fn run(rt: &HostRuntime) -> anyhow::Result<()> {
     Ok(())
 }
 
-fn main(rt: HostRuntime) -> anyhow::Result<()> {
-    let done = run(&rt);
-    if let Err(fault) = &done {
-        eprintln!(rt; "marks: {fault}")?;
+// An error that `main` returned would be printed once more, so it ends with a code.
+fn main(rt: HostRuntime) -> ExitCode {
+    let Err(fault) = run(&rt) else {
+        return ExitCode::SUCCESS;
+    };
+    match eprintln!(rt; "marks: {fault}") {
+        Ok(()) | Err(_) => ExitCode::FAILURE,
     }
-    done
 }

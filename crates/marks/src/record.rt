@@ -68,7 +68,7 @@ fn followed<W: Watcher>(
     stands: &mut [Passed],
 ) -> Result<String, Fault>
     requires { length stands.old ≡ length letters.now }
-    ensures { Records (watching watcher.now) letters.now result }
+    ensures { Records (W.watching watcher.now) letters.now result }
 {
     match follow(watcher, letters, stands) {
         Err(place) => Err(Fault::Letter(place)),
@@ -81,7 +81,7 @@ fn followed<W: Watcher>(
 
 // The record of the evening.
 pub fn record<W: Watcher>(heap: Global, watcher: &W, letters: &[u16]) -> Result<String, Fault>
-    ensures { Records (watching watcher.now) letters.now result }
+    ensures { Records (W.watching watcher.now) letters.now result }
 {
     if let Some(place) = stray(letters, watcher.sizes().letters) {
         return Err(Fault::Letter(place));

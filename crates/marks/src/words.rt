@@ -13,7 +13,7 @@ use watch::{DIGITS, MOST_EVENTS, Watcher};
 // Notes the event with its digit, unless the digit says that it is absent.
 fn note_digit<W: Watcher>(monitor: &mut Monitor<W>, event: u8, digit: u8) -> Result<(), Refusal>
     ensures same { Same monitor.old monitor.new }
-    ensures notes { NotesDigit (watching monitor.old.watcher) (formula monitor.old.expression) monitor.old event digit result monitor.new }
+    ensures notes { NotesDigit (W.watching monitor.old.watcher) (formula monitor.old.expression) monitor.old event digit result monitor.new }
 {
     if digit == 0 {
         return Ok(());
@@ -24,7 +24,7 @@ fn note_digit<W: Watcher>(monitor: &mut Monitor<W>, event: u8, digit: u8) -> Res
 // Notes what the letter says of each event.
 fn note_letter<W: Watcher>(monitor: &mut Monitor<W>, letter: u16) -> Result<(), Refusal>
     ensures same { Same monitor.old monitor.new }
-    ensures notes { NotesLetter (watching monitor.old.watcher) (formula monitor.old.expression) monitor.old letter result monitor.new }
+    ensures notes { NotesLetter (W.watching monitor.old.watcher) (formula monitor.old.expression) monitor.old letter result monitor.new }
 {
     let mut rest = letter;
     for event in 0..MOST_EVENTS {
@@ -38,7 +38,7 @@ fn note_letter<W: Watcher>(monitor: &mut Monitor<W>, letter: u16) -> Result<(), 
 // Notes what the letter says of each event, and closes the step.
 fn close_with<W: Watcher>(monitor: &mut Monitor<W>, letter: u16) -> Result<(), Refusal>
     ensures same { Same monitor.old monitor.new }
-    ensures closes { ClosesWith (watching monitor.old.watcher) (formula monitor.old.expression) monitor.old letter result monitor.new }
+    ensures closes { ClosesWith (W.watching monitor.old.watcher) (formula monitor.old.expression) monitor.old letter result monitor.new }
 {
     note_letter(monitor, letter)?;
     monitor.close()
@@ -82,7 +82,7 @@ pub fn words<W: Watcher + Drop>(
     expression: Expression,
     letters: &[u16],
 ) -> Result<String, AllocError>
-    ensures { IfOk result (λ text. Tells (watching watcher) (formula expression) letters.now (string_bytes text)) }
+    ensures { IfOk result (λ text. Tells (W.watching watcher) (formula expression) letters.now (string_bytes text)) }
 {
     let mut monitor = Monitor::open(watcher, expression);
     let (new, _) = monitor.verdict();

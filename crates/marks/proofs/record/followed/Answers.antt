@@ -1,4 +1,4 @@
-use Rattle.std.proofs.Common.{◌≡◌, ℕ, length, string_bytes, sym, ◌∙◌, arith}
+use Rattle.std.proofs.Common.{string_bytes, ◌∙◌}
 use Rattle.marks.proofs.Lines.{recorded, all_appeared}
 use Rattle.marks.proofs.record.followed.Goals as goal
 

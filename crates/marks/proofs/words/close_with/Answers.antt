@@ -7,7 +7,7 @@ returns-in_err-note_letter g c =
     let n = c.note_letter.new.monitor in
     record {
       same = c.note_letter.ensures.same;
-      closes = never_closes g.W.Watcher.watching c.args.monitor.now c.args.letter c.in_err-note_letter.field-0.0 n n c.from-residual.result c.in_err-note_letter.ensures.notes;
+      closes = never_closes g.W.Watcher.watching c.args.monitor.now c.args.letter c.in_err-note_letter.field-0.0 n n c.from_residual.result c.in_err-note_letter.ensures.notes;
     }
 
 pub returns : goal.returns
