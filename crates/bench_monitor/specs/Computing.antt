@@ -1,5 +1,5 @@
 -- Watchers over five events that are computed by a formula. Assumes nothing.
-use Rattle.std.specs.Prelude.{ℕ, ◌+◌, ◌-◌, ◌*◌, ◌%◌, Bool, true, false, cond, ◌&&◌, ◌||◌, ◌==◌, nat_le, nat_lt}
+use Rattle.std.specs.Prelude.{ℕ, ◌+◌, ◌-◌, ◌*◌, ◌%◌, Bool, false, cond, ◌&&◌, ◌||◌, ◌==◌, nat_le, nat_lt}
 use Rattle.watch.specs.Watchers.{Watching}
 use Rattle.bench_monitor.specs.declared.shape.Shape.{Shape}
 use Rattle.bench_monitor.specs.declared.shape.Shape.TheVariants.{Up, Down, Round, Back, Mixed, Late}

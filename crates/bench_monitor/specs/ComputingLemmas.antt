@@ -4,7 +4,7 @@ use Rattle.std.proofs.Common.{sym, ap, subst, ◌∙◌, true≢false, arith}
 use Rattle.std.proofs.lemmas.Nat.{mod_below}
 use Rattle.std.proofs.lemmas.Bool.Decides.{nat_tests}
 use Rattle.watch.specs.Marks.{Has}
-use Rattle.watch.specs.Watchers.{Watching, Lawful, most_states}
+use Rattle.watch.specs.Watchers.{Lawful, most_states}
 use Rattle.watch.proofs.Bits.{no_mark}
 use Rattle.bench_monitor.specs.Computing.{computed, onward, resting}
 use Rattle.bench_monitor.specs.declared.shape.Shape.{Shape}
