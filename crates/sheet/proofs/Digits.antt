@@ -1,5 +1,5 @@
 -- Numbers with a digit for each row, taken apart and put together row by row. Assumes nothing.
-use Rattle.std.proofs.Common.{◌≡◌, ℕ, zero, suc, ◌+◌, ◌*◌, ◌/◌, ◌%◌, ◌^◌, ◌<◌, ◌≤◌, Bool, true, false, cond, eqb, List, [], ◌∷◌, length, get_or, take, drop, set, sym, refl, ap, ◌∙◌, ap₂, add-zero, mod-lt, mul_assoc, mul_comm, mul-le-mul_left, one-mul, pow-suc, mul-zero, mul-one, mul-add, le-mul_of_pos_right, add-one, arith, lit<}
+use Rattle.std.proofs.Common.{◌≡◌, ℕ, zero, suc, ◌+◌, ◌*◌, ◌/◌, ◌%◌, ◌^◌, ◌<◌, ◌≤◌, cond, eqb, List, [], ◌∷◌, length, get_or, take, drop, set, sym, ap, ◌∙◌, mod-lt, mul_assoc, mul_comm, mul-le-mul_left, pow-suc, mul-zero, mul-one, mul-add, add-one, arith, lit<}
 use native.Mathlib.Nat.{pow-le-pow_right}
 use Rattle.std.proofs.lemmas.List.{at_drop_more, at_drop_all}
 use Rattle.osl.specs.declared.event.Event.{Event}
@@ -9,7 +9,7 @@ use Rattle.osl.specs.Resolving.{matched_by}
 use Rattle.rows.specs.Stepping.{moved, broken, states}
 use Rattle.rows.proofs.Bounds.{moved_below}
 use Rattle.limits.specs.Questions.{product}
-use Rattle.limits.proofs.Products.{product_pos, product_more, product_least, product_all}
+use Rattle.limits.proofs.Products.{product_more, product_least, product_all}
 use Rattle.sheet.specs.Joints.{joint, marks_at, matched_all}
 
 -- one digit r below n is put on the sum, with the weight w; what is left above it is q

@@ -1,8 +1,7 @@
 -- On every run the marks of a sheet tell which of its rows are true. Assumes nothing.
-use Rattle.std.proofs.Common.{◌≡◌, ℕ, zero, suc, ◌<◌, ◌≤◌, true, ◌⊎◌, List, [], ◌∷◌, length, get_or, sym, refl, ap, ◌∙◌, subst, ap₂, inl, inr, arith}
+use Rattle.std.proofs.Common.{◌≡◌, ℕ, zero, suc, ◌<◌, ◌≤◌, true, List, [], ◌∷◌, length, get_or, sym, ap, ◌∙◌, subst, ap₂, inl, inr, arith}
 use Rattle.std.specs.List.{AllByRecursion as All}
 use Rattle.std.proofs.lemmas.Bool.{cases_lt}
-use Rattle.watch.specs.Classical.{Exists}
 use Rattle.watch.specs.Exactly.{Exactly}
 use Rattle.watch.specs.Marks.{Has}
 use Rattle.watch.specs.Runs as watch

@@ -1,6 +1,6 @@
 -- What the questions' yes gives: the limits of a sheet as facts. Assumes nothing.
-use Rattle.std.specs.Prelude.{◌≡◌, ℕ, ◌<◌, ◌≤◌, Bool, true, false, cond, not, ◌&&◌, ◌||◌, ◌⊎◌, List, [], ◌∷◌, map, length, vec_items, nat_le, nat_lt, refl}
-use Rattle.std.proofs.Common.{sym, ap, subst, ◌∙◌, inl, inr, ⊎_elim, arith}
+use Rattle.std.specs.Prelude.{◌≡◌, ℕ, ◌<◌, ◌≤◌, Bool, true, false, not, ◌&&◌, List, [], ◌∷◌, map, length, vec_items, nat_le, nat_lt, refl}
+use Rattle.std.proofs.Common.{sym, ap, subst, ◌∙◌, inl, inr, ⊎_elim}
 use Rattle.std.specs.List.{AllByRecursion as All}
 use Rattle.std.specs.Str.{bytes_eq}
 use Rattle.std.proofs.lemmas.Bool.{and_parts, or_parts, ltb-true, leb-true, not-true, both_ways, cases_Bool, cond-true, cond-false, false≢true}
@@ -20,16 +20,16 @@ use Rattle.osl.specs.declared.row.Row.TheVariants.{Until, Always, After, Within,
 use Rattle.osl.specs.Osl as osl
 use Rattle.osl.specs.Osl.{Word, ◌∈◌, within_params}
 use Rattle.osl.specs.Sets.{Apart, SameEvent}
-use Rattle.osl.specs.Terms.{pairs, as_pair, as_class, as_event}
+use Rattle.osl.specs.Terms.{pairs, as_class, as_event}
 use Rattle.osl.specs.Traces.{class_of}
 use Rattle.osl.specs.Matching.{same_event?}
 use Rattle.osl.proofs.Deciding.{within_decides}
 use Rattle.rows.specs.Meaning.{Declared, Lawful}
 use Rattle.expression.specs.Formulas.{Formula}
 use Rattle.limits.specs.Forms.{row_in_range, called, row_free}
-use Rattle.limits.specs.Events.{same_class, events_clash, params_once, events_apart}
+use Rattle.limits.specs.Events.{same_class, events_clash, params_once}
 use Rattle.limits.specs.Questions.{product, all_yes}
-use Rattle.limits.proofs.Passing.{Passes, passes}
+use Rattle.limits.proofs.Passing.{passes}
 
 pub record Bounds (events : List Event) (rows : List Row) : Type 0 where
   pub some_events : 1 ≤ length events

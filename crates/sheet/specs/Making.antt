@@ -1,5 +1,5 @@
 -- What making a sheet of its parts answers. Assumes nothing.
-use Rattle.std.specs.Prelude.{◌≡◌, List, [], ◌∷◌, Some, None, Ok, Err, vec_items, codes, Result, Vec}
+use Rattle.std.specs.Prelude.{◌≡◌, [], ◌∷◌, Some, None, Ok, Err, vec_items, codes, Result, Vec}
 use Rattle.std.specs.declared.alloc.Global.{Global}
 use Rattle.text.specs.Names.{name_bytes}
 use Rattle.osl.specs.declared.event.Class.TheVariants.{Other}
@@ -9,7 +9,7 @@ use Rattle.osl.specs.declared.row.Row.TheVariants.{Always}
 use Rattle.osl.specs.declared.row.Test.TheVariants.{True}
 use Rattle.expression.specs.declared.expression.Expression.{Expression}
 use Rattle.expression.specs.Expressions.{formula}
-use Rattle.expression.specs.Formulas.{Formula, term}
+use Rattle.expression.specs.Formulas.{term}
 use Rattle.limits.specs.declared.refusal.Refusal.{Refusal}
 use Rattle.limits.specs.Questions.{judged}
 use Rattle.sheet.specs.declared.sheet.Sheet.{Sheet}

@@ -1,17 +1,17 @@
 -- The rows of a joint state step as each would alone, and show each row's mark. Assumes nothing.
 use Rattle.std.specs.Prelude.{◌≡◌, ℕ, zero, suc, ◌+◌, ◌*◌, ◌/◌, ◌%◌, ◌^◌, ◌<◌, ◌≤◌, Bool, true, false, cond, List, [], ◌∷◌, length, ◌==◌, slice_index_or, refl}
-use Rattle.std.proofs.Common.{sym, ap, ap₂, subst, ◌∙◌, mod-lt, div-one, pow-suc, mul_comm, arith}
+use Rattle.std.proofs.Common.{sym, ap, ◌∙◌, mod-lt, div-one, pow-suc, mul_comm, arith}
 use Rattle.std.proofs.Math.Nat.{zero-mod, zero-div, div-div-eq-div-mul}
 use Rattle.std.proofs.Math.Arith.{digits_div, digits_mod}
 use Rattle.std.proofs.lemmas.Nat.{mul-add-lt}
-use Rattle.std.proofs.lemmas.Bool.{eqb-true, eq-eqb, cases_Bool}
+use Rattle.std.proofs.lemmas.Bool.{eqb-true, eq-eqb}
 use Rattle.watch.specs.Marks.{Has}
 use Rattle.osl.specs.declared.event.Event.{Event}
 use Rattle.osl.specs.declared.row.Row.{Row}
 use Rattle.osl.specs.declared.matched.Matched.{Matched}
 use Rattle.osl.specs.Resolving.{matched_by}
 use Rattle.rows.specs.Stepping.{moved, broken, states}
-use Rattle.rows.proofs.Bounds.{moved_below, moved_broken}
+use Rattle.rows.proofs.Bounds.{moved_below}
 use Rattle.limits.specs.Questions.{product}
 use Rattle.limits.proofs.Products.{product_pos}
 use Rattle.sheet.specs.Joints.{joint, marks_at, matched_all}

@@ -1,6 +1,6 @@
 -- The rows within their limits are a watcher. Assumes nothing.
-use Rattle.std.specs.Prelude.{◌≡◌, ℕ, zero, suc, ◌^◌, ◌<◌, ◌≤◌, Bool, true, false, cond, ◌&&◌, ◌⊎◌, List, [], ◌∷◌, length, nat_lt, slice_index_or, refl}
-use Rattle.std.proofs.Common.{sym, ap, subst, ◌∙◌, inl, inr, ⊎_elim, arith, pow_pos}
+use Rattle.std.specs.Prelude.{◌≡◌, ℕ, zero, suc, ◌^◌, ◌<◌, ◌≤◌, ◌&&◌, List, [], ◌∷◌, length, nat_lt, slice_index_or}
+use Rattle.std.proofs.Common.{sym, ap, subst, ◌∙◌, inl, inr, arith, pow_pos}
 use Rattle.std.proofs.lemmas.Bool.{and_from, and_left, and_right, lt-ltb, le-ltb, cond-true, cond-false, cases_Bool, cases_lt, both_ways}
 use Rattle.watch.specs.Letters.{letter_count}
 use Rattle.watch.specs.Marks.{Has, has}
@@ -9,7 +9,7 @@ use Rattle.watch.proofs.Bits.{has_from, has_past}
 use Rattle.osl.specs.declared.event.Event.{Event}
 use Rattle.osl.specs.declared.row.Row.{Row}
 use Rattle.osl.specs.declared.matched.Matched.{Matched}
-use Rattle.osl.specs.Resolving.{no_events, matched_by}
+use Rattle.osl.specs.Resolving.{no_events}
 use Rattle.rows.specs.Steps.{digits_of}
 use Rattle.rows.specs.Stepping.{moved, broken}
 use Rattle.rows.proofs.Bounds.{moved_broken}
@@ -17,7 +17,7 @@ use Rattle.limits.specs.Questions.{product}
 use Rattle.limits.proofs.Products.{product_pos}
 use Rattle.sheet.specs.Joints.{joint, marks_at, matched_all, watched}
 use Rattle.sheet.specs.Limits.{Bounds}
-use Rattle.sheet.specs.Parts.{part, joint_below, part_next, length_matched, matched_at, shown→broken, broken→shown, marks_below}
+use Rattle.sheet.specs.Parts.{part, joint_below, part_next, length_matched, shown→broken, broken→shown, marks_below}
 
 module _ (events : List Event) (rows : List Row) where
   abbrev w : Watching

@@ -78,7 +78,7 @@ impl Sheet {
         })
     }
 
-    // Makes this sheet anew of these parts. A refusal leaves it was.
+    // Makes this sheet anew of these parts. A refusal leaves it as it was.
     pub fn make(
         &mut self,
         events: Vec<Event>,

@@ -1,4 +1,4 @@
-use Rattle.std.proofs.Common.{◌≡◌, ℕ, List, set, sym, ap, ◌∙◌, ap₂, arith}
+use Rattle.std.proofs.Common.{List, set, ap, ◌∙◌, ap₂, arith}
 use Rattle.std.proofs.lemmas.List.{take_all}
 use Rattle.watch.specs.Watchers.{most_marks}
 use Rattle.osl.specs.declared.matched.Matched.{Matched}

@@ -1,4 +1,4 @@
-use Rattle.std.proofs.Common.{◌≡◌, ◌≤◌, List, length, None, vec_items, Option, sym, refl, ap, ◌∙◌, subst, ap₂}
+use Rattle.std.proofs.Common.{◌≡◌, ◌≤◌, List, length, None, vec_items, Option, sym, refl, ◌∙◌, subst, ap₂}
 use Rattle.watch.specs.Letters.{most_events}
 use Rattle.watch.specs.Sizes.{sizes_of}
 use Rattle.watch.specs.Watchers.{most_marks, most_states}
@@ -57,18 +57,13 @@ invariant_of-result c =
     let keep = formula c.args.keep in
     let none : judged events rows keep ≡ None =
     judged_parts events _ rows _ keep _ c.deref.ensures.value c.deref-2.ensures.value c.in_default.ensures
-    in (
-      all_said_yes events rows keep none,
-      (
-        c.match_all-matched.ensures ∙
-            ap₂ (λ (es : List Event) (rs : List Row). matched_all es most_marks rs) c.deref-3.ensures.value c.deref-4.ensures.value,
-        (
-          c.sizes_of-sizes.ensures ∙
-              ap₂ (λ (es : List Event) (rs : List Row). sizes_of (watched es rs)) c.deref-5.ensures.value c.deref-6.ensures.value,
-          tt,
-        ),
-      ),
-    )
+    in record {
+      lawful = all_said_yes events rows keep none;
+      found = c.match_all-matched.ensures ∙
+          ap₂ (λ (es : List Event) (rs : List Row). matched_all es most_marks rs) c.deref-3.ensures.value c.deref-4.ensures.value;
+      sized = c.sizes_of-sizes.ensures ∙
+          ap₂ (λ (es : List Event) (rs : List Row). sizes_of (watched es rs)) c.deref-5.ensures.value c.deref-6.ensures.value;
+    }
 
 pub returns : goal.returns
 returns c = (

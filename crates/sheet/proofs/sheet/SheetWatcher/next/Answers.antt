@@ -1,4 +1,4 @@
-use Rattle.std.proofs.Common.{◌≡◌, ℕ, ◌≤◌, cond, ◌&&◌, ltb, List, length, vec_items, sym, ap, subst, arith, rules}
+use Rattle.std.proofs.Common.{◌≡◌, ℕ, ◌≤◌, ◌&&◌, ltb, List, length, vec_items, sym, ap, subst, arith, rules}
 use Rattle.std.proofs.lemmas.Bool.{and_left, and_right, le-ltb, cond-false}
 use Rattle.watch.specs.Letters.{letter_count}
 use Rattle.watch.specs.Watchers.{most_states}
