@@ -1,7 +1,7 @@
 // The record of an evening as text.
 ghost use Rattle.std.specs.Prelude.{◌≡◌, ◌++◌, length, IfOk, string_bytes};
 ghost use Rattle.marks.specs.declared.record.Fault.TheVariants.{Memory};
-ghost use Rattle.marks.specs.Records.{«step_line», «last_line», list_lines, Records};
+ghost use Rattle.marks.specs.Records.{step_line, last_line, list_lines, Records};
 
 use std::alloc::{AllocError, Global};
 use watch::{MarkSet, Passed, Watcher, follow, stray};

@@ -2,7 +2,7 @@
 ghost use Rattle.std.specs.Prelude.{◌≡◌, IfOk, string_bytes};
 ghost use Rattle.expression.specs.Expressions.{formula};
 ghost use Rattle.monitor.specs.inner.Standing.{Same};
-ghost use Rattle.marks.specs.WordTexts.{«new_line», change_line, closed_line, refused_line, Tells};
+ghost use Rattle.marks.specs.WordTexts.{new_line, change_line, closed_line, refused_line, Tells};
 ghost use Rattle.marks.specs.inner.Spelling.{NotesDigit, NotesLetter, ClosesWith};
 
 use expression::Expression;

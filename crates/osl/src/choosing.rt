@@ -1,7 +1,7 @@
 // Sets of declared events.
 ghost use Rattle.std.specs.Prelude.{◌≡◌};
 ghost use Rattle.osl.specs.Resolving.{set_of, no_events};
-ghost use Rattle.osl.specs.inner.Flags.{«flag_at»};
+ghost use Rattle.osl.specs.inner.Flags.{flag_at};
 
 use crate::event::Event;
 use text::Asks;

@@ -1,6 +1,6 @@
 // Tests and counts in a step, over the sets of declared events that their patterns match.
 ghost use Rattle.std.specs.Prelude.{◌≡◌, ◌≤◌, ◌&&◌, if◌then◌else◌};
-ghost use Rattle.rows.specs.Stepping.{means, tally, truth, absent, number as «count_of»};
+ghost use Rattle.rows.specs.Stepping.{means, tally, truth, absent, number as count_of};
 
 use crate::step::Step;
 use osl::{Count, EventSet, Test};

@@ -1,7 +1,7 @@
 // A step by what each event does in it.
 ghost use Rattle.std.specs.Prelude.{◌≡◌, ◌%◌};
 ghost use Rattle.watch.specs.Letters.{digits as base};
-ghost use Rattle.rows.specs.Steps.{«digits_of»};
+ghost use Rattle.rows.specs.Steps.{digits_of};
 
 use osl::PLACES;
 use watch::DIGITS;

@@ -1,6 +1,6 @@
 // Strings of bytes: where a byte stands, whether two are the same, and one without its last line feed.
 ghost use Rattle.std.specs.Prelude.{◌≡◌, ◌<◌, length, Decides, MatchOption, slice_index};
-ghost use Rattle.text.specs.Lines.{unended as «without_end»};
+ghost use Rattle.text.specs.Lines.{unended as without_end};
 ghost use Rattle.text.specs.inner.Places.{NoneBefore};
 
 // The first place of a byte.
