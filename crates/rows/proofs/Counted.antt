@@ -1,7 +1,7 @@
 -- What is counted over a set of events is what OSL counts in the step. Assumes nothing.
 use Rattle.std.proofs.Common.{◌≡◌, ℕ, zero, suc, ◌+◌, ◌≤◌, Bool, true, false, cond, not, ◌&&◌, ◌||◌, eqb, ltb, List, [], ◌∷◌, ◌++◌, map, length, sym, refl, ap, ◌∙◌, ap₂, add_assoc, zero-add, arith}
 use Rattle.std.proofs.lemmas.Bool.{lt-ltb}
-use Rattle.std.specs.List.{AllByRecursion as All}
+use Rattle.std.specs.List.{AllByRecursion}
 use Rattle.osl.specs.declared.event.Event as declared
 use Rattle.osl.specs.declared.event.Pattern.{Pattern}
 use Rattle.osl.specs.Osl as osl
@@ -104,7 +104,7 @@ not_more false n = ap (λ (m : ℕ). not (ltb 0 m)) (zero-add n)
 
 pub tally_none :
     (q : declared.Event → Bool) (astray : osl.Event → Bool) (n : ℕ) (es : List declared.Event) (i letter : ℕ) → length es ≤ n →
-    All (λ e. q e ≡ astray (as_event e)) es →
+    AllByRecursion (λ e. q e ≡ astray (as_event e)) es →
     not (ltb 0 (tally StartingOrOngoing (chosen q n es) (digits_from letter i n))) ≡ none astray (entries_from i (map as_event es) letter)
 tally_none q astray zero [] i letter few all = refl
 tally_none q astray zero (e ∷ es) i letter few all = absurd (omega arith)

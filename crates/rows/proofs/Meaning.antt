@@ -3,7 +3,7 @@ use Rattle.std.proofs.Common.{◌≡◌, ℕ, suc, ◌+◌, ◌<◌, ◌≤◌, 
 use mathlib.Core.Path.{fun_ext}
 use mathlib.Core.Bool.{false≢true}
 use Rattle.std.proofs.lemmas.Bool.Decides.{Decides-not, Decides-at}
-use Rattle.std.specs.List.{AllByRecursion as All}
+use Rattle.std.specs.List.{AllByRecursion}
 use Rattle.text.specs.Names.{name_bytes}
 use Rattle.watch.specs.Classical.{Either, Exists}
 use Rattle.watch.specs.Runs.{Run}
@@ -42,11 +42,11 @@ either_map f g e not-c not-d = e (λ a. not-c (f a)) (λ b. not-d (g b))
 exists_map : {A : Type 0} {P Q : A → Type 0} → ((x : A) → P x → Q x) → Exists P → Exists Q
 exists_map f some nowhere = some (λ x p. nowhere x (f x p))
 
-all_from : {X : Type 0} {P : X → Type 0} → ((x : X) → P x) → (xs : List X) → All P xs
+all_from : {X : Type 0} {P : X → Type 0} → ((x : X) → P x) → (xs : List X) → AllByRecursion P xs
 all_from f [] = tt
 all_from f (x ∷ xs) = (f x, all_from f xs)
 
-all_map : {X : Type 0} {P Q : X → Type 0} → ((x : X) → P x → Q x) → (xs : List X) → All P xs → All Q xs
+all_map : {X : Type 0} {P Q : X → Type 0} → ((x : X) → P x → Q x) → (xs : List X) → AllByRecursion P xs → AllByRecursion Q xs
 all_map f [] h = tt
 all_map f (x ∷ xs) h = (f x h.0, all_map f xs h.1)
 
@@ -117,7 +117,7 @@ module _ (events : List Event) (few : length events ≤ most_events) (run : Run)
   -- the events of a set are absent exactly where no entry of the trace is astray
   absent_decides :
       (q : Event → Bool) (astray : osl.Event → Bool) (P : osl.Event → Type 0) → ((e : osl.Event) → Decides (astray e) (P e)) →
-      All (λ e. q e ≡ astray (as_event e)) events → (v : ℕ) →
+      AllByRecursion (λ e. q e ≡ astray (as_event e)) events → (v : ℕ) →
       Decides (absent (set_of q events) (ds v)) ((ie : IndEvent) → ie ∈ t v → P ie.event → ⊥)
   absent_decides q astray P d all v =
       Decides-at (absent (set_of q events) (ds v)) (none astray (t v))
@@ -158,7 +158,7 @@ module _ (events : List Event) (few : length events ≤ most_events) (run : Run)
             holds.1),
       )
 
-  right_names : (p : PermittedNames) → All (λ e. class_of events (name_bytes e.name) ≡ as_class e.class) events → Right (Names p)
+  right_names : (p : PermittedNames) → AllByRecursion (λ e. class_of events (name_bytes e.name) ≡ as_class e.class) events → Right (Names p)
   right_names p classed =
       let ex : List Word = words (vec_items p.names) in
       let ps : Params = pairs (vec_items p.having) in
@@ -205,7 +205,7 @@ module _ (events : List Event) (few : length events ≤ most_events) (run : Run)
             ))),
       )
 
-  right : (row : Row) → Lawful row → All (λ e. class_of events (name_bytes e.name) ≡ as_class e.class) events → Right row
+  right : (row : Row) → Lawful row → AllByRecursion (λ e. class_of events (name_bytes e.name) ≡ as_class e.class) events → Right row
   right (Until a b) lawful classed = right_until a b
   right (Always a) lawful classed =
       let r = always_right (holding a) (λ v. H v (as_test a)) (test_decides a) in

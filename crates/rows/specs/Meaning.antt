@@ -1,6 +1,6 @@
 -- The theorem: on every run a row is never broken exactly when its formula holds of the run's trace at step 0. Assumes nothing.
 use Rattle.std.specs.Prelude.{◌≡◌, ℕ, ◌<◌, ◌≤◌, List, length, vec_items}
-use Rattle.std.specs.List.{AllByRecursion as All}
+use Rattle.std.specs.List.{AllByRecursion}
 use Rattle.text.specs.Names.{name_bytes}
 use Rattle.watch.specs.Classical.{Exists}
 use Rattle.watch.specs.Exactly.{Exactly}
@@ -20,7 +20,7 @@ use Rattle.rows.specs.Stepping.{moved, broken}
 -- What the declared events have to meet: there are few enough, and those of one name have one class.
 pub record Declared (events : List Event) : Type 0 where
   pub few : length events ≤ most_events
-  pub classed : All (λ e. class_of events (name_bytes e.name) ≡ as_class e.class) events
+  pub classed : AllByRecursion (λ e. class_of events (name_bytes e.name) ≡ as_class e.class) events
 
 -- What a row has to meet: a deadline has at least one step, and the parameter whose values are permitted is not fixed already.
 abbrev pub Lawful : Row → Type 0

@@ -1,6 +1,6 @@
 -- On every run the marks of a sheet tell which of its rows are true. Assumes nothing.
 use Rattle.std.proofs.Common.{◌≡◌, ℕ, zero, suc, ◌<◌, ◌≤◌, true, List, [], ◌∷◌, length, get_or, sym, ap, ◌∙◌, subst, ap₂, inl, inr, arith}
-use Rattle.std.specs.List.{AllByRecursion as All}
+use Rattle.std.specs.List.{AllByRecursion}
 use Rattle.std.proofs.lemmas.Bool.{cases_lt}
 use Rattle.watch.specs.Exactly.{Exactly}
 use Rattle.watch.specs.Marks.{Has}
@@ -50,13 +50,13 @@ no_row : (rows : List Row) (P : Row → Type 0) → at_row rows zero P
 no_row [] P = tt
 no_row (r ∷ rs) P = tt
 
-all_at : (P : Row → Type 0) (rows : List Row) (i : ℕ) (d : Row) → i < length rows → All P rows → P (get_or rows i d)
+all_at : (P : Row → Type 0) (rows : List Row) (i : ℕ) (d : Row) → i < length rows → AllByRecursion P rows → P (get_or rows i d)
 all_at P [] i d here all = absurd (omega arith)
 all_at P (r ∷ rs) zero d here all = all.0
 all_at P (r ∷ rs) (suc i) d here all = all_at P rs i d (omega arith) all.1
 
 module _
-    (events : List Event) (rows : List Row) (lim : Bounds events rows) (fine : Declared events) (lawful : All Lawful rows)
+    (events : List Event) (rows : List Row) (lim : Bounds events rows) (fine : Declared events) (lawful : AllByRecursion Lawful rows)
     (run : Run) (over : Over (length events) run)
   where
     abbrev w : Watching

@@ -1,7 +1,7 @@
 -- What the questions' yes gives: the limits of a sheet as facts. Assumes nothing.
 use Rattle.std.specs.Prelude.{◌≡◌, ℕ, ◌<◌, ◌≤◌, Bool, true, false, not, ◌&&◌, List, [], ◌∷◌, map, length, vec_items, nat_le, nat_lt, refl}
 use Rattle.std.proofs.Common.{sym, ap, subst, ◌∙◌, inl, inr, ⊎_elim}
-use Rattle.std.specs.List.{AllByRecursion as All}
+use Rattle.std.specs.List.{AllByRecursion}
 use Rattle.std.specs.Str.{bytes_eq}
 use Rattle.std.proofs.lemmas.Bool.{and_parts, or_parts, ltb-true, leb-true, not-true, both_ways, cases_Bool, cond-true, cond-false, false≢true}
 use Rattle.std.proofs.lemmas.Slice.Eq.{bytes_eq-Decides}
@@ -78,14 +78,14 @@ lawful_row (Answer n a b) e f = at_least_one n e
 lawful_row (Names p) e f = tt
 lawful_row (Values p) e f = unfixed (vec_items p.having) (name_bytes p.param) (not-true (some (called (name_bytes p.param)) (vec_items p.having)) f)
 
-lawful_all : (rows : List Row) → every row_in_range rows ≡ true → every row_free rows ≡ true → All Lawful rows
+lawful_all : (rows : List Row) → every row_in_range rows ≡ true → every row_free rows ≡ true → AllByRecursion Lawful rows
 lawful_all [] e f = tt
 lawful_all (r ∷ rs) e f =
     let p = and_parts (row_in_range r) (every row_in_range rs) e in
     let q = and_parts (row_free r) (every row_free rs) f in
     (lawful_row r p.0 q.0, lawful_all rs p.1 q.1)
 
-pub lawful_rows : (events : List Event) (rows : List Row) (keep : Formula) → all_yes events rows keep ≡ true → All Lawful rows
+pub lawful_rows : (events : List Event) (rows : List Row) (keep : Formula) → all_yes events rows keep ≡ true → AllByRecursion Lawful rows
 lawful_rows events rows keep e = let p = passes events rows keep e in lawful_all rows p.range p.free
 
 -- ## Events
@@ -119,15 +119,15 @@ module _ (e d : Event) (fine : events_clash e d ≡ false) where
       all_true true false c x y z = y
       all_true false b c x y z = x
 
-none_of : (e : Event) (es : List Event) → some (events_clash e) es ≡ false → All (λ d. events_clash e d ≡ false) es
+none_of : (e : Event) (es : List Event) → some (events_clash e) es ≡ false → AllByRecursion (λ d. events_clash e d ≡ false) es
 none_of e [] h = tt
 none_of e (d ∷ ds) h = let p = or_parts (events_clash e d) (some (events_clash e) ds) h in (p.0, none_of e ds p.1)
 
-all_map : {X : Type 0} {P Q : X → Type 0} → ((x : X) → P x → Q x) → (xs : List X) → All P xs → All Q xs
+all_map : {X : Type 0} {P Q : X → Type 0} → ((x : X) → P x → Q x) → (xs : List X) → AllByRecursion P xs → AllByRecursion Q xs
 all_map f [] h = tt
 all_map f (x ∷ xs) h = (f x h.0, all_map f xs h.1)
 
-all_two : {X : Type 0} {P Q R : X → Type 0} → ((x : X) → P x → Q x → R x) → (xs : List X) → All P xs → All Q xs → All R xs
+all_two : {X : Type 0} {P Q R : X → Type 0} → ((x : X) → P x → Q x → R x) → (xs : List X) → AllByRecursion P xs → AllByRecursion Q xs → AllByRecursion R xs
 all_two f [] h k = tt
 all_two f (x ∷ xs) h k = (f x h.0 k.0, all_two f xs h.1 k.1)
 
@@ -145,7 +145,7 @@ beside e es d fine is =
       | inr other ↦ cond-false _ _ _ other ∙ is
     ]
 
-classed : (es : List Event) → apart events_clash es ≡ true → All (λ e. class_of es (name_bytes e.name) ≡ as_class e.class) es
+classed : (es : List Event) → apart events_clash es ≡ true → AllByRecursion (λ e. class_of es (name_bytes e.name) ≡ as_class e.class) es
 classed [] h = tt
 classed (e ∷ es) h =
     let p = and_parts (not (some (events_clash e) es)) (apart events_clash es) h in
@@ -154,7 +154,7 @@ classed (e ∷ es) h =
       all_two (λ d f is. beside e es d f is) es fine (classed es p.1),
     )
 
-members : (P : osl.Event → Type 0) (es : List Event) → All (λ d. P (as_event d)) es → (y : osl.Event) → y ∈ map as_event es → P y
+members : (P : osl.Event → Type 0) (es : List Event) → AllByRecursion (λ d. P (as_event d)) es → (y : osl.Event) → y ∈ map as_event es → P y
 members P [] h y m = absurd m
 members P (d ∷ ds) h y m = ⊎_elim (λ is. subst P (sym is) h.0) (λ k. members P ds h.1 y k) m
 
