@@ -17,7 +17,7 @@ pub enum Test {
     NoAny(Pattern),
 }
 
-// What is counted in a step: each declared event that matches counts once.
+// What is counted in a step. A matching event of the sheet adds one, however many parameters it has.
 #[derive(Drop)]
 pub enum Count {
     // Where it is starting.
@@ -57,7 +57,7 @@ pub enum Row {
     During(u16, Test),
     // The counts never add up to more than l.
     Most(u16, Count),
-    // The counts add up to at most l through the first step with B, or, without one, never to more.
+    // Until B first holds, and in that very step, the counts do not add up to more than l; where B never holds, they never do.
     MostUntil(u16, Count, Test),
     // After each step v with A, B holds at some step from v to v + n - 1.
     Answer(u16, Test, Test),

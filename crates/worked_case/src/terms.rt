@@ -56,7 +56,8 @@ fn play_of_m(heap: Global) -> anyhow::Result<Pattern> {
     })
 }
 
-// Events `play` of m, `play` of n and `pay`; rows `mostuntil 1 first play,object=m first pay` and `within 3 first pay`; both are kept.
+// Three events: the plays of m and of n, and `pay`. The first row is `mostuntil 1 first play,object=m first pay`, the second
+// `within 3 first pay`, and the sheet keeps both.
 pub fn worked_sheet(heap: Global) -> anyhow::Result<Sheet> {
     let mut events = Vec::new(heap);
     events.push(play(heap, "m")?)?;
