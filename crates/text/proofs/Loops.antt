@@ -1,6 +1,6 @@
 -- The steps of a loop over a slice whose answer a recursion over the list defines: what is left gives the answer. Assumes nothing.
-use Rattle.std.proofs.Common.{◌≡◌, ℕ, ◌+◌, ◌-◌, ◌<◌, ◌≤◌, Bool, true, false, ◌&&◌, ◌||◌, List, [], ◌∷◌, length, get_or, take, drop, sym, refl, ap, ◌∙◌}
-use Rattle.std.proofs.lemmas.List.{at_drop_more, at_drop_all, get_or_default, take_rest}
+use Rattle.std.proofs.Common.{◌≡◌, ℕ, ◌+◌, ◌-◌, ◌<◌, ◌≤◌, Bool, true, false, ◌&&◌, ◌||◌, List, [], ◌∷◌, length, get_or, take, drop, sym, ap, ◌∙◌}
+use Rattle.std.proofs.lemmas.List.{at_drop_more, at_drop_all, take_rest}
 use Rattle.text.specs.Clean.{every}
 use Rattle.text.specs.Lists.{some}
 
@@ -32,18 +32,15 @@ pass true r v e s = s
 pass false r v e s = cc
 
 -- a loop that asks each byte
-module _ (p : ℕ → Bool) (xs : List ℕ) (i : ℕ) (inv : every p (drop i xs) ≡ every p xs) where
-  here_at : i < length xs → every p (get_or xs i 0 ∷ drop (i + 1) xs) ≡ every p xs
-  here_at h = at (every p) xs i (get_or xs i 0) h (get_or_default xs i 0 (get_or xs i 0) h) inv
+module _ (p : ℕ → Bool) (v : Bool) (xs : List ℕ) (i : ℕ) (inv : every p (drop i xs) ≡ v) where
+  pub byte_passes : i < length xs → p (get_or xs i 0) ≡ true → every p (drop (i + 1) xs) ≡ v
+  byte_passes h e = pass _ _ v e (sym (at_drop_more (every p) xs i 0 h) ∙ inv)
 
-  pub byte_passes : i < length xs → p (get_or xs i 0) ≡ true → every p (drop (i + 1) xs) ≡ every p xs
-  byte_passes h e = pass _ _ _ e (here_at h)
+  pub byte_fails : i < length xs → p (get_or xs i 0) ≡ false → false ≡ v
+  byte_fails h e = fail _ _ v e (sym (at_drop_more (every p) xs i 0 h) ∙ inv)
 
-  pub byte_fails : i < length xs → p (get_or xs i 0) ≡ false → false ≡ every p xs
-  byte_fails h e = fail _ _ _ e (here_at h)
-
-  pub bytes_end : length xs ≤ i → true ≡ every p xs
-  bytes_end h = ended (every p) xs i h inv
+  pub bytes_end : length xs ≤ i → true ≡ v
+  bytes_end h = sym (at_drop_all (every p) xs i h) ∙ inv
 
 -- a part of a slice from a place to its end
 pub some_rest : {X : Type 0} (p : X → Bool) (xs : List X) (i : ℕ) → some p (take (length xs - i) (drop i xs)) ≡ some p (drop i xs)

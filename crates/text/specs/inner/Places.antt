@@ -1,5 +1,5 @@
 -- Where a byte does not stand. Assumes nothing.
-use Rattle.std.specs.Prelude.{◌≡◌, ℕ, ◌<◌, List, ◌≢◌, slice_index}
+use Rattle.std.specs.Prelude.{ℕ, ◌<◌, List, ◌≢◌, slice_index}
 
 -- The byte s does not stand among the first n.
 abbrev pub NoneBefore : ℕ → List ℕ → ℕ → Type 0
