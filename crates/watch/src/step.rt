@@ -1,5 +1,5 @@
 // A step by what each event does in it, and its letter.
-ghost use Rattle.std.specs.Prelude.{◌≡◌, ◌<◌, length};
+ghost use Rattle.std.specs.Prelude.{◌≡◌, ◌<◌, length, map};
 ghost use Rattle.watch.specs.Letters.{letter_count, most_events};
 ghost use Rattle.watch.specs.declared.step.Step.{Step};
 ghost use Rattle.watch.specs.Steps.{digit, digit_of, digits_of, spelt, step_digits};
@@ -36,6 +36,13 @@ fn kind_at(letter: u16, event: usize) -> Option<Kind>
     }
 }
 
+// What each event does in a step with this letter.
+fn kinds_of(letter: u16) -> [Option<Kind>; PLACES]
+    ensures { map digit_of result ≡ digits_of letter }
+{
+    array::from_fn(|event| kind_at(letter, event))
+}
+
 impl Step {
     // The step in which every event is absent.
     pub const QUIET: Step = Step {
@@ -49,7 +56,7 @@ impl Step {
         ensures spells { letter < letter_count most_events → spelt (step_digits result) ≡ letter }
     {
         Step {
-            kinds: array::from_fn(|event| kind_at(letter, event)),
+            kinds: kinds_of(letter),
         }
     }
 
