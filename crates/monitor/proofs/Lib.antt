@@ -1,4 +1,5 @@
 mod Noting
+mod Making
 mod Resting
 mod Words
 mod Agreeing
