@@ -1,5 +1,5 @@
 -- Calls that are made one after another, up to the first that is refused. Assumes nothing.
-use Rattle.std.proofs.Common.{◌≡◌, ℕ, zero, suc, ◌+◌, ◌<◌, ◌≤◌, Bool, true, false, cond, List, [], ◌∷◌, ◌++◌, length, get_or, drop, is_ok, Ok, Err, Result, Option, None, refl, sym, ap, ap₂, ◌∙◌, subst, subst₂, append_assoc}
+use Rattle.std.proofs.Common.{◌≡◌, ℕ, ◌+◌, ◌<◌, ◌≤◌, Bool, true, false, cond, List, [], ◌∷◌, ◌++◌, length, get_or, drop, is_ok, Ok, Err, Result, Option, None, refl, sym, ap, ◌∙◌, subst, subst₂, append_assoc}
 use Rattle.std.proofs.lemmas.Bool.{true≢false}
 use Rattle.std.proofs.lemmas.List.{at_drop_more, at_drop_all}
 use Rattle.watch.specs.Watchers.{Watching}
@@ -96,11 +96,11 @@ left_next kinds e lt =
 pub left_last : (kinds : List (Option Kind)) (e : ℕ) → length kinds ≤ e → left_from kinds e ≡ Close ∷ []
 left_last kinds e past = ap (λ (calls : List Call). calls ++ Close ∷ []) (at_drop_all (λ (ks : List (Option Kind)). notes_from e ks) kinds e past)
 
-made_once : {A : Type 0} (b : Bool) (a p : A) → cond b (cond b a p) p ≡ cond b a p
+pub made_once : {A : Type 0} (b : Bool) (a p : A) → cond b (cond b a p) p ≡ cond b a p
 made_once true a p = refl
 made_once false a p = refl
 
-told : (r : Result (Unit {0}) Refusal) → r ≡ cond (is_ok r) (Ok tt) r
+pub told : (r : Result (Unit {0}) Refusal) → r ≡ cond (is_ok r) (Ok tt) r
 told (Ok done) = refl
 told (Err why) = refl
 

@@ -19,11 +19,11 @@ use Rattle.monitor.specs.declared.refusal.Refusal.{Refusal}
 use Rattle.monitor.specs.declared.refusal.Refusal.TheVariants.{Event, Noted, Steps}
 use Rattle.monitor.specs.declared.calls.Call.TheVariants.{Note, Close}
 
-letter_more : (ns : List NoteOf) (n : NoteOf) → letter (ns ++ (n ∷ [])) ≡ letter ns + n.kind * (digits ^ n.event)
+pub letter_more : (ns : List NoteOf) (n : NoteOf) → letter (ns ++ (n ∷ [])) ≡ letter ns + n.kind * (digits ^ n.event)
 letter_more [] n = omega arith
 letter_more (m ∷ ns) n = omega (arith, letter_more ns n)
 
-noted_more : (ns : List NoteOf) (n : NoteOf) (e : ℕ) → noted (ns ++ (n ∷ [])) e ≡ (noted ns e || eqb n.event e)
+pub noted_more : (ns : List NoteOf) (n : NoteOf) (e : ℕ) → noted (ns ++ (n ∷ [])) e ≡ (noted ns e || eqb n.event e)
 noted_more [] n e = or-false _
 noted_more (m ∷ ns) n e = ap (λ (b : Bool). eqb m.event e || b) (noted_more ns n e) ∙ sym (or_assoc (eqb m.event e) _ _)
 
@@ -82,7 +82,7 @@ kind_some : (k : Kind) → 0 < kind_number k
 kind_some Starting = omega arith
 kind_some Ongoing = omega arith
 
-kind_lawful : (k : Kind) → (eqb (kind_number k) 1 || eqb (kind_number k) 2) ≡ true
+pub kind_lawful : (k : Kind) → (eqb (kind_number k) 1 || eqb (kind_number k) 2) ≡ true
 kind_lawful Starting = refl
 kind_lawful Ongoing = refl
 

@@ -1,11 +1,12 @@
 -- A step that is closed with what its events do in it: the calls for that, and what they come to. Assumes nothing.
-use Rattle.std.specs.Prelude.{◌≡◌, ℕ, zero, ◌+◌, cond, List, [], ◌∷◌, ◌++◌, is_ok, Ok, Result, None, Some, Option}
+use Rattle.std.specs.Prelude.{◌≡◌, ℕ, zero, ◌+◌, ◌≤◌, cond, List, [], ◌∷◌, ◌++◌, is_ok, Ok, Result, None, Some, Option, slice_index_or}
 use Rattle.watch.specs.Kinds.{kind_number}
+use Rattle.watch.specs.Steps.{spelt, step_digits}
 use Rattle.watch.specs.Watchers.{Watching}
 use Rattle.watch.specs.declared.kind.Kind.{Kind}
 use Rattle.watch.specs.declared.step.Step.{Step}
 use Rattle.expression.specs.Formulas.{Formula}
-use Rattle.monitor.specs.Plain.{Plain, note_answer, close_answer, after}
+use Rattle.monitor.specs.Plain.{Plain, NoteOf, note_answer, close_answer, after}
 use Rattle.monitor.specs.inner.Standing.{Represents}
 use Rattle.monitor.specs.declared.calls.Call.{Call}
 use Rattle.monitor.specs.declared.calls.Call.TheVariants.{Note, Close, Ask}
@@ -45,3 +46,28 @@ left g p (call ∷ more) = cond (is_ok (taken g p call)) (left g (after g p call
 abbrev pub Makes : {W : Type 0} → Watching → Formula → Monitor W → List Call → Result (Unit {0}) Refusal → Monitor W → Type 0
 Makes w f m calls r n =
     (plain : Plain) → Represents w f m plain → (r ≡ outcome w.events plain calls) × Represents w f n (left w.events plain calls)
+
+-- The notes of the events from number e on, as the plain monitor keeps them.
+abbrev pub kept_note : ℕ → Option Kind → List NoteOf
+kept_note e None = []
+kept_note e (Some kind) = record { event = e; kind = kind_number kind } ∷ []
+
+abbrev pub kept_notes : ℕ → List (Option Kind) → List NoteOf
+kept_notes e [] = []
+kept_notes e (kind ∷ kinds) = kept_note e kind ++ kept_notes (e + 1) kinds
+
+-- In the step no event does anything but the first g.
+abbrev pub Within : ℕ → Step → Type 0
+Within g step = (e : ℕ) → g ≤ e → slice_index_or step.kinds e None ≡ None
+
+-- The plain monitor with these closed steps after a step was closed with its letter. Where the closing is refused, the notes stay.
+abbrev pub after_step : List ℕ → Step → Plain
+after_step closed step =
+    cond (is_ok (close_answer (record { closed = closed; notes = [] }))) (record { closed = closed ++ spelt (step_digits step) ∷ []; notes = [] })
+    (record { closed = closed; notes = kept_notes zero step.kinds })
+
+-- A monitor without notes was answered as a closing, and closed a step with the letter of this step.
+abbrev pub ClosesWith : {W : Type 0} → Watching → Formula → Monitor W → Step → Result (Unit {0}) Refusal → Monitor W → Type 0
+ClosesWith w f m step r n =
+    (closed : List ℕ) → Within w.events step → Represents w f m (record { closed = closed; notes = [] })
+    → (r ≡ close_answer (record { closed = closed; notes = [] })) × Represents w f n (after_step closed step)

@@ -1,6 +1,6 @@
 // Closing a step with what its events did in it.
 ghost use Rattle.expression.specs.Expressions.{formula};
-ghost use Rattle.monitor.specs.Closing.{Makes, closing, note_of};
+ghost use Rattle.monitor.specs.Closing.{ClosesWith, Makes, closing, note_of};
 ghost use Rattle.monitor.specs.inner.Standing.{Same};
 
 use crate::monitor::Monitor;
@@ -23,6 +23,7 @@ impl<W: Watcher> Monitor<W> {
     pub fn close_with(&mut self, step: Step) -> Result<(), Refusal>
         ensures same { Same self.old self.new }
         ensures makes { Makes (W.watching self.old.watcher) (formula self.old.expression) self.old (closing step) result self.new }
+        ensures closes { ClosesWith (W.watching self.old.watcher) (formula self.old.expression) self.old step result self.new }
     {
         for (event, kind) in step.kinds.iter().enumerate() {
             self.note_kind(event as u8, *kind)?;

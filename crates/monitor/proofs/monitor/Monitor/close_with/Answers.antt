@@ -1,11 +1,11 @@
-use Rattle.std.proofs.Common.{rules, ◌≡◌, ℕ, ◌+◌, List, [], ◌∷◌, length, get_or, None, Some, Ok, Err, Option, Result, sym, refl, subst, arith}
+use Rattle.std.proofs.Common.{rules, ◌≡◌, ℕ, ◌+◌, List, [], ◌∷◌, length, get_or, None, Err, Option, Result, sym, subst, arith}
 use Rattle.watch.specs.declared.kind.Kind.{Kind}
 use Rattle.expression.specs.Expressions.{formula}
 use Rattle.monitor.specs.Closing.{Makes, closing, note_of}
-use Rattle.monitor.specs.declared.calls.Call.{Call}
 use Rattle.monitor.specs.declared.calls.Call.TheVariants.{Close}
 use Rattle.monitor.specs.declared.refusal.Refusal.{Refusal}
 use Rattle.monitor.proofs.Making.{Upto, left_from, left_next, left_last, upto_more, upto_refused, upto_end, one_closing}
+use Rattle.monitor.proofs.Shutting.{closes_with}
 use Rattle.monitor.proofs.monitor.Monitor.close_with.Goals as goal
 
 pub loop-event-preserved : goal.loop-event-preserved
@@ -41,3 +41,13 @@ returns-clause-makes g c =
     let next = subst (Upto (watch m.watcher) (formula m.expression) m n (closing c.args.step)) (left_last kinds c.loop-event.event (omega (arith, five, c.loop-event-test.false))) c.loop-event.invariant in
     upto_end watch m n c.close.new.self (closing c.args.step) (Close ∷ []) next c.close.ensures.same c.close.result
     (one_closing (watch n.watcher) (formula n.expression) n c.close.new.self c.close.result c.close.ensures.takes)
+
+pub returns-in_err-note_kind-clause-closes : goal.returns-in_err-note_kind-clause-closes
+returns-in_err-note_kind-clause-closes g c =
+    let m = c.args.self.now in
+    closes_with (g.W.Watcher.watching m.watcher) (formula m.expression) m c.note_kind.new.self c.args.step c.from_residual.result (returns-in_err-note_kind-clause-makes g c)
+
+pub returns-clause-closes : goal.returns-clause-closes
+returns-clause-closes g c =
+    let m = c.args.self.now in
+    closes_with (g.W.Watcher.watching m.watcher) (formula m.expression) m c.close.new.self c.args.step c.close.result (returns-clause-makes g c)

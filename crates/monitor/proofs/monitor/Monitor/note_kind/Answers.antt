@@ -1,7 +1,6 @@
-use Rattle.std.proofs.Common.{◌≡◌, ℕ, Option, Some, sym, refl, subst}
+use Rattle.std.proofs.Common.{ℕ, Option, sym, subst}
 use Rattle.watch.specs.Kinds.{kind_number}
 use Rattle.watch.specs.declared.kind.Kind.{Kind}
-use Rattle.watch.specs.declared.kind.Kind.TheVariants.{Starting, Ongoing}
 use Rattle.expression.specs.Expressions.{formula}
 use Rattle.monitor.specs.Closing.{Makes, note_of}
 use Rattle.monitor.specs.Plain.{note_answer}
