@@ -11,7 +11,7 @@ use Rattle.watch.specs.Steps.{digit_of, spelt, step_digits}
 use Rattle.watch.specs.Watchers.{Watching, Lawful}
 use Rattle.watch.specs.declared.kind.Kind.{Kind}
 use Rattle.watch.specs.declared.kind.Kind.TheVariants.{Starting, Ongoing}
-use Rattle.watch.proofs.Spelling.{digit_few}
+use Rattle.watch.proofs.Spelling.{digit_few, digit_at, digit_of_none}
 use Rattle.monitor.specs.Plain.{Plain, NoteOf, noted, letter, note_answer, close_answer, most_closed, after}
 use Rattle.monitor.specs.inner.Running.{Follows, Notes, reached, Spelled}
 use Rattle.monitor.specs.declared.running.Running.{Running}
@@ -60,16 +60,6 @@ module _ (g : ℕ) (notes : List NoteOf) (ds : List ℕ) (few : g ≤ most_event
     small = λ i. ⊎_elim (λ is. omega (arith, put i is)) (λ ne. omega (arith, get_or-set_other ds e i k 0 ne, x.small i)) (cases_eq i e);
     absent = λ i past. get_or-set_other ds e i k 0 (omega arith) ∙ x.absent i past;
   }
-
-digit_of_none : (k : Option Kind) → digit_of k ≡ 0 → k ≡ None
-digit_of_none None none = refl
-digit_of_none (Some Starting) none = absurd (omega arith)
-digit_of_none (Some Ongoing) none = absurd (omega arith)
-
-digit_at : (ks : List (Option Kind)) (e : ℕ) → get_or (map digit_of ks) e 0 ≡ digit_of (get_or ks e None)
-digit_at [] e = refl
-digit_at (k ∷ ks) zero = refl
-digit_at (k ∷ ks) (suc e) = digit_at ks e
 
 pub is_free : (k : Option Kind) → is_some k ≡ false → k ≡ None
 is_free None free = refl
