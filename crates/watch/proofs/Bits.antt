@@ -1,8 +1,7 @@
 -- Sets of marks as numbers: single marks, subsets, and two sets beside each other. Assumes nothing.
-use Rattle.std.proofs.Common.{◌≡◌, ℕ, zero, suc, ◌-◌, ◌/◌, ◌%◌, ◌^◌, ◌<◌, true, false, eqb, ◌⊎◌, refl, ap, ◌∙◌, inl, inr, ⊎_elim, arith}
+use Rattle.std.proofs.Common.{◌≡◌, ℕ, zero, suc, ◌/◌, ◌%◌, ◌^◌, ◌<◌, true, false, eqb, ◌⊎◌, refl, ap, inl, inr, ⊎_elim, arith}
 use native.Mathlib.Nat.{div-eq_of_lt, zero-div}
-use lib.Bits.{bit_and}
-use Rattle.std.proofs.lemmas.Nat.{and_mask, pow_below}
+use Rattle.std.proofs.lemmas.Nat.{pow_below}
 use Rattle.std.proofs.lemmas.Bool.{eqb-true, eq-eqb, cases_eq}
 use Rattle.watch.specs.Marks.{Has, has}
 
@@ -13,13 +12,6 @@ has_true (suc j) set e = eqb-true _ _ e
 pub has_from : (i set : ℕ) → Has i set → has i set ≡ true
 has_from zero set h = absurd h
 has_from (suc j) set h = eq-eqb _ _ h
-
--- How the code reads a bit.
-pub bit_test : (mark set : ℕ) → 0 < mark → eqb (bit_and (set / (2 ^ (mark - 1))) 1) 1 ≡ has mark set
-bit_test zero set some_mark = absurd (omega arith)
-bit_test (suc j) set some_mark =
-    let e : suc j - 1 ≡ j = omega arith in
-    ap (λ (n : ℕ). eqb (bit_and (set / (2 ^ n)) 1) 1) e ∙ ap (λ (n : ℕ). eqb n 1) (and_mask (set / (2 ^ j)) 1)
 
 -- A set below 2 ^ n has no mark above n.
 pub has_past : (n mark set : ℕ) → set < 2 ^ n → n < mark → has mark set ≡ false
