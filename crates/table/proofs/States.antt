@@ -1,12 +1,9 @@
 -- A list draws a lawful watcher exactly when its sizes are lawful and each of its states is. Assumes nothing.
-use Rattle.std.proofs.Common.{◌≡◌, ℕ, ◌+◌, ◌*◌, ◌^◌, ◌<◌, true, ◌&&◌, ltb, List, [], get_or, vec_items, refl, subst, arith, pow_pos}
+use Rattle.std.proofs.Common.{◌≡◌, ℕ, ◌+◌, ◌*◌, ◌^◌, ◌<◌, true, ◌&&◌, ltb, List, get_or, vec_items, subst, arith, pow_pos}
 use mathlib.Core.Logic.{∥∥₁_elim}
 use Rattle.std.proofs.lemmas.Bool.{cond_both, cond-true, cond-false, and_parts, and_left, and_right, le-ltb, ltb-true}
 use Rattle.watch.specs.Letters.{letter_count}
-use Rattle.watch.specs.Marks.{Has}
-use Rattle.watch.specs.Runs.{Run, Holds, passed}
 use Rattle.watch.specs.Watchers.{Lawful}
-use Rattle.watch.proofs.Bits.{no_mark}
 use Rattle.watch.proofs.Uniqueness.{lawful_unique}
 use Rattle.table.specs.Drawings.{drawn, Head, StateLawful}
 use Rattle.table.specs.declared.table.Table.{Table}
@@ -47,34 +44,3 @@ module _ (words : List ℕ) where
       inside s a e =
           let p = and_parts (ltb s n) (ltb a count) e in
           subst (λ (t : ℕ). t < n) (cond-true (ltb s n && ltb a count) _ _ e) ((each s (ltb-true s n p.0)).1 a (ltb-true a count p.1)).0
-
-  pub each_lawful : Lawful (drawn words) → (s : ℕ) → s < n → StateLawful (drawn words) s
-  each_lawful law s hs =
-      (law.shown_within s, λ a ha. (law.next_within s a, λ i. law.marks_stay s a i hs ha))
-
--- The blank table.
-blank_shown : (s : ℕ) → (drawn []).shown s ≡ 0
-blank_shown s = cond_both (ltb s 1) 0 0 (λ (t : ℕ). t ≡ 0) (λ e. refl) (λ e. refl)
-
-blank_next : (s a : ℕ) → (drawn []).next s a ≡ 0
-blank_next s a = cond_both (ltb s 1 && ltb a (letter_count 1)) 0 0 (λ (t : ℕ). t ≡ 0) (λ e. refl) (λ e. refl)
-
-pub blank_lawful : Lawful (drawn [])
-blank_lawful = record {
-  some_state = omega arith;
-  few_states = omega arith;
-  some_event = omega arith;
-  few_events = omega arith;
-  some_mark = omega arith;
-  few_marks = omega arith;
-  start_within = omega arith;
-  next_within = λ s a. omega (arith, blank_next s a);
-  next_beyond_states = λ s a h. blank_next s a;
-  next_beyond_letters = λ s a h. blank_next s a;
-  shown_within = λ s. omega (arith, blank_shown s);
-  shown_beyond = λ s h. blank_shown s;
-  marks_stay = λ s a i hs ha has. absurd (no_mark i (subst (Has i) (blank_shown s) has));
-}
-
-pub blank_quiet : (run : Run) (i : ℕ) → Holds (drawn []) run i
-blank_quiet run i k has = no_mark i (subst (Has i) (blank_shown (passed (drawn []) run k)) has)
