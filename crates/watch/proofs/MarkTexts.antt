@@ -1,5 +1,6 @@
 -- One mark more in the text of a set. Assumes nothing.
-use Rattle.std.proofs.Common.{◌≡◌, ℕ, zero, suc, pred, ◌≤◌, ◌+◌, ◌<◌, true, false, List, [], ◌∷◌, ◌++◌, length, codes, decimal, sym, refl, ap, ◌∙◌, append_assoc, length-append, arith}
+use Rattle.std.proofs.Common.{◌≡◌, ℕ, suc, pred, ◌≤◌, ◌+◌, ◌<◌, true, false, List, [], ◌∷◌, ◌++◌, length, codes, decimal, sym, refl, ap, ◌∙◌, append_assoc, length-append, arith}
+use Rattle.std.proofs.Math.Nat.{suc-pred-eq_of_ne-zero}
 use Rattle.std.proofs.lemmas.Fmt.{decimal_nonempty}
 use Rattle.std.proofs.lemmas.Bool.{cond-true, cond-false}
 use Rattle.watch.specs.Marks.{has}
@@ -9,10 +10,6 @@ use Rattle.watch.specs.MarkTexts.{apart, marks_upto, or_none}
 abbrev pub gap : List ℕ → List ℕ
 gap [] = []
 gap (b ∷ text) = codes " "
-
-suc-pred : (n : ℕ) → 1 ≤ n → suc (pred n) ≡ n
-suc-pred zero h = absurd (omega arith)
-suc-pred (suc n) h = refl
 
 apart-gap : (text : List ℕ) → apart text ≡ text ++ gap text
 apart-gap [] = refl
@@ -25,7 +22,7 @@ gap-full (b ∷ text) full = refl
 -- A mark that is in the set comes behind the gap, and one that is not changes nothing.
 module _ (set mark : ℕ) (some_mark : 1 ≤ mark) where
   is : suc (pred mark) ≡ mark
-  is = suc-pred mark some_mark
+  is = suc-pred-eq_of_ne-zero (λ e. omega arith)
 
   pub with_mark : has mark set ≡ true → marks_upto mark set ≡ marks_upto (pred mark) set ++ (gap (marks_upto (pred mark) set) ++ decimal mark)
   with_mark has-it =
