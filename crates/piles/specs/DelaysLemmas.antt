@@ -1,7 +1,7 @@
 -- The delay is a watcher, and its terms hold when they hold below on the later steps. Assumes nothing.
 use Rattle.std.specs.Prelude.{◌≡◌, ℕ, zero, suc, ◌+◌, ◌-◌, ◌^◌, ◌<◌, ◌≤◌, true, nat_lt}
 use Rattle.std.proofs.Common.{sym, ap, subst, ◌∙◌, ⊎_elim, add-zero, add-suc, arith, pow_pos}
-use Rattle.std.proofs.lemmas.Bool.{cond_both, cond-true, cond-false, lt-ltb, le-ltb, cases_lt}
+use Rattle.std.proofs.lemmas.Bool.{cond_both, cond-true, cond-false, cases_lt}
 use Rattle.std.proofs.lemmas.Bool.Decides.{nat_tests}
 use Rattle.watch.specs.Exactly.{Exactly}
 use Rattle.watch.specs.Letters.{letter_count}
@@ -26,10 +26,10 @@ module _ (w : Watching) (n : ℕ) (law : Lawful w) (fits : fits_delay w n ≡ tr
   next_last j a hj ha = grind (arith, nat_tests)
 
   shown_below : (s : ℕ) → s < w.states → (delayed w n).shown s ≡ w.shown s
-  shown_below s hs = cond-true (nat_lt s w.states) _ _ (lt-ltb s _ hs)
+  shown_below s hs = grind (arith, nat_tests)
 
   shown_unseen : (s : ℕ) → w.states ≤ s → (delayed w n).shown s ≡ 0
-  shown_unseen s hs = cond-false (nat_lt s w.states) _ _ (le-ltb s _ hs)
+  shown_unseen s hs = grind (arith, nat_tests)
 
   some_step : 1 ≤ n
   some_step = grind (arith, nat_tests)
@@ -45,7 +45,7 @@ module _ (w : Watching) (n : ℕ) (law : Lawful w) (fits : fits_delay w n ≡ tr
     start_within = omega (arith, some_step);
     next_within = λ s a. grind (arith, nat_tests, law.next_within s a, law.start_within, some_step);
     next_beyond_states = λ s a h. grind (arith, nat_tests);
-    next_beyond_letters = λ s a h. cond-false (nat_lt a (letter_count w.events)) _ _ (le-ltb a _ h);
+    next_beyond_letters = λ s a h. grind (arith, nat_tests);
     shown_within = λ s. cond_both (nat_lt s w.states) (w.shown s) 0 (λ (t : ℕ). t < 2 ^ w.marks) (λ e. law.shown_within s) (λ e. pow_pos w.marks);
     shown_beyond = λ s h. shown_unseen s (omega arith);
     marks_stay = λ s a i hs ha has.

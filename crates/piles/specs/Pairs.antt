@@ -5,7 +5,7 @@ use Rattle.watch.specs.Letters.{letter_count}
 use Rattle.watch.specs.Runs.{Run, Over, Holds}
 use Rattle.watch.specs.Sizes.{sizes_of}
 use Rattle.watch.specs.Watchers.{Watching, most_states, most_marks}
-use Rattle.watch.specs.declared.watcher.Sizes.{Sizes}
+use Rattle.piles.specs.declared.halves.Halves.{Halves}
 use Rattle.piles.specs.Stubs.{stub}
 
 -- The events are the same, and the numbers of states and of marks are within their limits.
@@ -31,9 +31,9 @@ abbrev pub pair : Watching → Watching → Watching
 pair v w = cond (fits_pair v w) (paired v w) (stub v)
 
 -- The sizes of the two are at hand where the limits are kept, and nothing where they are not.
-abbrev pub Sides : Watching → Watching → Option (Sizes × Sizes) → Type 0
+abbrev pub Sides : Watching → Watching → Option Halves → Type 0
 Sides v w None = fits_pair v w ≡ false
-Sides v w (Some sizes) = (fits_pair v w ≡ true) × (sizes.0 ≡ sizes_of v) × (sizes.1 ≡ sizes_of w)
+Sides v w (Some halves) = (fits_pair v w ≡ true) × (halves.first ≡ sizes_of v) × (halves.second ≡ sizes_of w)
 
 -- A term of a pair holds on a run exactly when the first's term of that number holds on the same run or, above the
 -- first's marks, the second's term of that number less the first's marks. Over a stub every term holds on every run.

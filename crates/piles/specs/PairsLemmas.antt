@@ -1,9 +1,10 @@
 -- The pair is a watcher, and its terms are the terms of the two. Assumes nothing.
-use Rattle.std.specs.Prelude.{◌≡◌, ℕ, zero, suc, ◌+◌, ◌-◌, ◌*◌, ◌/◌, ◌%◌, ◌^◌, ◌<◌, ◌≤◌, true, ◌&&◌, ◌==◌, nat_le, nat_lt, refl}
+use Rattle.std.specs.Prelude.{◌≡◌, ℕ, zero, suc, ◌+◌, ◌-◌, ◌*◌, ◌/◌, ◌%◌, ◌^◌, ◌<◌, ◌≤◌, true, ◌&&◌, nat_lt, refl}
 use Rattle.std.proofs.Common.{sym, ap, subst, ◌∙◌, ⊎_elim, arith, pow_pos}
 use Rattle.std.proofs.Math.Arith.{digits_lt}
 use Rattle.std.proofs.lemmas.Nat.{div-mul-add, mod-mul-add, div_below, mod_below, div-add-mod'}
-use Rattle.std.proofs.lemmas.Bool.{cond_both, cond-true, cond-false, and_parts, and_from, and_left, and_right, leb-true, eqb-true, lt-ltb, le-ltb, cases_lt}
+use Rattle.std.proofs.lemmas.Bool.{cond_both, cond-true, cond-false, and_from, lt-ltb, cases_lt}
+use Rattle.std.proofs.lemmas.Bool.Decides.{nat_tests}
 use Rattle.watch.specs.Exactly.{Exactly}
 use Rattle.watch.specs.Letters.{letter_count}
 use Rattle.watch.specs.Marks.{Has}
@@ -23,9 +24,7 @@ pub record Fit (v w : Watching) : Type 0 where
 
 pub fit : (v w : Watching) → fits_pair v w ≡ true → Fit v w
 fit v w e =
-    let a = and_parts (v.events == w.events && nat_le (v.marks + w.marks) 8) (nat_le (v.states * w.states) 16384) e in
-    let b = and_parts (v.events == w.events) (nat_le (v.marks + w.marks) 8) a.0 in
-    record { same_events = eqb-true _ _ b.0; few_marks = leb-true _ _ b.1; few_states = leb-true _ _ a.1 }
+    record { same_events = grind (arith, nat_tests); few_marks = grind (arith, nat_tests); few_states = grind (arith, nat_tests) }
 
 module _ (v w : Watching) (p : Lawful v) (q : Lawful w) (fits : Fit v w) where
   joined : ℕ → ℕ → ℕ
@@ -87,14 +86,12 @@ module _ (v w : Watching) (p : Lawful v) (q : Lawful w) (fits : Fit v w) where
     next_within = λ s a.
         cond_both (nat_lt s (v.states * w.states) && nat_lt a (letter_count v.events)) _ _ (λ (t : ℕ). t < v.states * w.states)
         (λ e. joined_within _ _ (p.next_within (s / w.states) a) (q.next_within (s % w.states) a)) (λ e. start_within);
-    next_beyond_states = λ s a h.
-        cond-false (nat_lt s (v.states * w.states) && nat_lt a (letter_count v.events)) _ _ (and_left (nat_lt s (v.states * w.states)) (nat_lt a (letter_count v.events)) (le-ltb s _ h));
-    next_beyond_letters = λ s a h.
-        cond-false (nat_lt s (v.states * w.states) && nat_lt a (letter_count v.events)) _ _ (and_right (nat_lt s (v.states * w.states)) (nat_lt a (letter_count v.events)) (le-ltb a _ h));
+    next_beyond_states = λ s a h. grind (arith, nat_tests);
+    next_beyond_letters = λ s a h. grind (arith, nat_tests);
     shown_within = λ s.
         cond_both (nat_lt s (v.states * w.states)) _ _ (λ (t : ℕ). t < 2 ^ (v.marks + w.marks))
         (λ e. beside_below _ _ v.marks w.marks (p.shown_within (s / w.states)) (q.shown_within (s % w.states))) (λ e. pow_pos (v.marks + w.marks));
-    shown_beyond = λ s h. cond-false (nat_lt s (v.states * w.states)) _ _ (le-ltb s _ h);
+    shown_beyond = λ s h. grind (arith, nat_tests);
     marks_stay = λ s a i hs ha has.
         let hs1 = div_below s w.states v.states q.some_state hs in
         let hs2 = mod_below s w.states q.some_state in

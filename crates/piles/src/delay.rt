@@ -23,7 +23,8 @@ pub struct Delay<W> {
 fn keeps_limits(states: u16, steps: u16) -> bool
     ensures { result ≡ nat_le 1 steps && nat_le steps most_steps && nat_le (states + steps) most_states }
 {
-    1 <= steps && steps <= MOST_STEPS && states as u32 + steps as u32 <= MOST_STATES as u32
+    (1..=MOST_STEPS).contains(&steps)
+        && u32::from(states) + u32::from(steps) <= u32::from(MOST_STATES)
 }
 
 impl<W: Watcher> Delay<W> {
@@ -31,10 +32,9 @@ impl<W: Watcher> Delay<W> {
     pub fn fits(below: &W, steps: u16) -> Result<(), Refusal>
         ensures { Answers (fits_delay (W.watching below.now) steps) result }
     {
-        if !keeps_limits(below.sizes().states, steps) {
-            return Err(Refusal::Limits);
-        }
-        Ok(())
+        keeps_limits(below.sizes().states, steps)
+            .then_some(())
+            .ok_or(Refusal::Limits)
     }
 
     pub fn new(below: W, steps: u16) -> Delay<W>
@@ -45,7 +45,8 @@ impl<W: Watcher> Delay<W> {
         Delay { below, steps }
     }
 
-    // Follows the delay along the letters, as `watch::follow` does. What is followed is the delay of the watcher below.
+    // Follows the delay along the letters, as `watch::follow` does. What is followed is the delay of the watcher below,
+    // which a method that the trait provides could not say.
     pub fn follow(&self, letters: &[u16], stands: &mut [Passed]) -> Result<MarkSet, usize>
         ensures { Follows (delay (W.watching self.now.below) self.now.steps) letters.now stands.old stands.new result }
     {
@@ -57,11 +58,7 @@ impl<W: Watcher> Delay<W> {
         ensures { Under (W.watching self.now.below) self.now.steps result }
     {
         let sizes = self.below.sizes();
-        if keeps_limits(sizes.states, self.steps) {
-            Some(sizes)
-        } else {
-            None
-        }
+        keeps_limits(sizes.states, self.steps).then_some(sizes)
     }
 }
 
@@ -71,21 +68,17 @@ impl<W: Watcher> Watcher for Delay<W> {
     ghost lawful = { λ d. delay_lawful (W.watching d.below) d.steps (W.lawful d.below) };
 
     fn sizes(&self) -> Sizes {
-        let below = self.below.sizes();
-        if !keeps_limits(below.states, self.steps) {
-            return stub_sizes(below);
-        }
-        Sizes {
-            states: below.states + self.steps,
-            ..below
+        match self.under() {
+            Some(below) => Sizes {
+                states: below.states + self.steps,
+                ..below
+            },
+            None => stub_sizes(self.below.sizes()),
         }
     }
 
     fn start(&self) -> u16 {
-        match self.under() {
-            Some(below) => below.states,
-            None => 0,
-        }
+        self.under().map_or(0, |below| below.states)
     }
 
     fn next(&self, state: u16, letter: u16) -> u16 {

@@ -5,6 +5,7 @@
 #![tactic(auto)]
 
 mod delay;
+mod halves;
 mod pair;
 mod refusal;
 mod stub;

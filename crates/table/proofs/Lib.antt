@@ -1,3 +1,3 @@
-mod Heads
 mod Subsets
 mod States
+mod Ranges

@@ -1,12 +1,10 @@
--- A list draws a lawful watcher exactly when its sizes are lawful and each of its states is. Assumes nothing.
-use Rattle.std.proofs.Common.{◌≡◌, ℕ, ◌+◌, ◌*◌, ◌^◌, ◌<◌, true, ◌&&◌, ltb, List, [], get_or, vec_items, refl, subst, arith, pow_pos}
+-- A list draws a lawful watcher if its sizes are lawful and each of its states is. Assumes nothing.
+use Rattle.std.proofs.Common.{ℕ, ◌<◌, List, vec_items, ⊎_elim, arith, pow_pos}
 use mathlib.Core.Logic.{∥∥₁_elim}
-use Rattle.std.proofs.lemmas.Bool.{cond_both, cond-true, cond-false, and_parts, and_left, and_right, le-ltb, ltb-true}
+use Rattle.std.proofs.lemmas.Bool.{cases_lt}
+use Rattle.std.proofs.lemmas.Bool.Decides.{nat_tests}
 use Rattle.watch.specs.Letters.{letter_count}
-use Rattle.watch.specs.Marks.{Has}
-use Rattle.watch.specs.Runs.{Run, Holds, passed}
 use Rattle.watch.specs.Watchers.{Lawful}
-use Rattle.watch.proofs.Bits.{no_mark}
 use Rattle.watch.proofs.Uniqueness.{lawful_unique}
 use Rattle.table.specs.Drawings.{drawn, Head, StateLawful}
 use Rattle.table.specs.declared.table.Table.{Table}
@@ -32,49 +30,13 @@ module _ (words : List ℕ) where
     few_marks = head.few_marks;
     start_within = head.some_state;
     next_within = λ s a.
-        cond_both (ltb s n && ltb a count) (get_or words (3 + n + s * count + a) 0) 0 (λ (t : ℕ). t < n)
-        (λ e. inside s a e) (λ e. head.some_state);
-    next_beyond_states = λ s a h. cond-false (ltb s n && ltb a count) _ _ (and_left (ltb s n) (ltb a count) (le-ltb s n h));
-    next_beyond_letters = λ s a h. cond-false (ltb s n && ltb a count) _ _ (and_right (ltb s n) (ltb a count) (le-ltb a count h));
+        ⊎_elim
+        (λ below. ⊎_elim (λ letter. ((each s below).1 a letter).0) (λ beyond. grind (arith, nat_tests, head.some_state)) (cases_lt a count))
+        (λ beyond. grind (arith, nat_tests, head.some_state)) (cases_lt s n);
+    next_beyond_states = λ s a h. grind (arith, nat_tests);
+    next_beyond_letters = λ s a h. grind (arith, nat_tests);
     shown_within = λ s.
-        cond_both (ltb s n) (get_or words (3 + s) 0) 0 (λ (t : ℕ). t < 2 ^ (drawn words).marks)
-        (λ e. subst (λ (t : ℕ). t < 2 ^ (drawn words).marks) (cond-true (ltb s n) _ _ e) (each s (ltb-true s n e)).0) (λ e. pow_pos _);
-    shown_beyond = λ s h. cond-false (ltb s n) _ _ (le-ltb s n h);
+        ⊎_elim (λ below. (each s below).0) (λ beyond. grind (arith, nat_tests, pow_pos (drawn words).marks)) (cases_lt s n);
+    shown_beyond = λ s h. grind (arith, nat_tests);
     marks_stay = λ s a i hs ha. ((each s hs).1 a ha).1 i;
   }
-    where
-      inside : (s a : ℕ) → (ltb s n && ltb a count) ≡ true → get_or words (3 + n + s * count + a) 0 < n
-      inside s a e =
-          let p = and_parts (ltb s n) (ltb a count) e in
-          subst (λ (t : ℕ). t < n) (cond-true (ltb s n && ltb a count) _ _ e) ((each s (ltb-true s n p.0)).1 a (ltb-true a count p.1)).0
-
-  pub each_lawful : Lawful (drawn words) → (s : ℕ) → s < n → StateLawful (drawn words) s
-  each_lawful law s hs =
-      (law.shown_within s, λ a ha. (law.next_within s a, λ i. law.marks_stay s a i hs ha))
-
--- The blank table.
-blank_shown : (s : ℕ) → (drawn []).shown s ≡ 0
-blank_shown s = cond_both (ltb s 1) 0 0 (λ (t : ℕ). t ≡ 0) (λ e. refl) (λ e. refl)
-
-blank_next : (s a : ℕ) → (drawn []).next s a ≡ 0
-blank_next s a = cond_both (ltb s 1 && ltb a (letter_count 1)) 0 0 (λ (t : ℕ). t ≡ 0) (λ e. refl) (λ e. refl)
-
-pub blank_lawful : Lawful (drawn [])
-blank_lawful = record {
-  some_state = omega arith;
-  few_states = omega arith;
-  some_event = omega arith;
-  few_events = omega arith;
-  some_mark = omega arith;
-  few_marks = omega arith;
-  start_within = omega arith;
-  next_within = λ s a. omega (arith, blank_next s a);
-  next_beyond_states = λ s a h. blank_next s a;
-  next_beyond_letters = λ s a h. blank_next s a;
-  shown_within = λ s. omega (arith, blank_shown s);
-  shown_beyond = λ s h. blank_shown s;
-  marks_stay = λ s a i hs ha has. absurd (no_mark i (subst (Has i) (blank_shown s) has));
-}
-
-pub blank_quiet : (run : Run) (i : ℕ) → Holds (drawn []) run i
-blank_quiet run i k has = no_mark i (subst (Has i) (blank_shown (passed (drawn []) run k)) has)

@@ -6,7 +6,6 @@ ghost use Rattle.table.specs.Drawings.{drawn};
 ghost use Rattle.table.specs.Reading.{Reads};
 
 use crate::drawing::Drawing;
-use crate::lawful::is_lawful;
 use crate::refusal::Refusal;
 use crate::sizes::sizes_of;
 use crate::table::Table;
@@ -30,7 +29,8 @@ impl Table {
         }
     }
 
-    // Follows the table along the letters, as `watch::follow` does. What is followed is what the list draws.
+    // Follows the table along the letters, as `watch::follow` does. What is followed is what the list draws, which a method
+    // that the trait provides could not say.
     pub fn follow(&self, letters: &[u16], stands: &mut [Passed]) -> Result<MarkSet, usize>
         ensures { Follows (drawn self.now.words.items) letters.now stands.old stands.new result }
     {
@@ -42,10 +42,8 @@ impl Table {
         ensures { Reads words.items self.old result self.new }
     {
         let list = words.as_slice();
-        let Some(sizes) = sizes_of(list) else {
-            return Err(Refusal::Sizes);
-        };
-        if !is_lawful(Drawing { words: list, sizes }) {
+        let sizes = sizes_of(list).ok_or(Refusal::Sizes)?;
+        if !(Drawing { words: list, sizes }).is_lawful() {
             return Err(Refusal::Laws);
         }
         *self = Table { words, sizes };

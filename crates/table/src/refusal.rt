@@ -2,6 +2,7 @@
 ghost use Rattle.std.specs.Prelude.{◌≡◌, Some};
 ghost use Rattle.table.specs.Refusals.{refusal_number, refusal_text};
 
+use std::error::Error;
 use std::fmt;
 
 #[derive(Clone, Copy, PartialEq, Eq, Debug)]
@@ -20,16 +21,18 @@ impl Refusal {
     }
 }
 
-// The refusal as a line, without its end.
+// The refusal as a line, without its end. Written out: what `thiserror` derives promises no text.
 impl fmt::Display for Refusal {
     ghost output = { λ refusal. Some (refusal_text refusal) };
 
     fn fmt<W: fmt::Write>(&self, f: &mut fmt::Formatter<W>) -> fmt::Result {
-        match self {
-            Refusal::Sizes => f.write_str(
-                "refused 30: the sizes are not lawful, or the list has another length",
-            ),
-            Refusal::Laws => f.write_str("refused 31: the table does not show what a watcher must"),
-        }
+        f.write_str(match self {
+            Refusal::Sizes => {
+                "refused 30: the sizes are not lawful, or the list has another length"
+            }
+            Refusal::Laws => "refused 31: the table does not show what a watcher must",
+        })
     }
 }
+
+impl Error for Refusal {}

@@ -51,6 +51,7 @@ impl Watcher for Table {
     }
 
     fn shown(&self, state: u16) -> MarkSet {
+        // The laws say that the set fits, so there is no failure that `try_from` could tell of.
         MarkSet {
             bits: self.drawing().shown(state) as u8,
         }

@@ -1,9 +1,7 @@
 -- Sets of marks as numbers: single marks, subsets, and two sets beside each other. Assumes nothing.
-use Rattle.std.proofs.Common.{◌≡◌, ℕ, zero, suc, ◌-◌, ◌/◌, ◌%◌, ◌^◌, ◌<◌, true, false, eqb, ◌⊎◌, refl, ap, ◌∙◌, inl, inr, ⊎_elim, arith}
-use native.Mathlib.Nat.{div-eq_of_lt, zero-div}
-use lib.Bits.{bit_and}
-use Rattle.std.proofs.lemmas.Nat.{and_mask, pow_below}
-use Rattle.std.proofs.lemmas.Bool.{eqb-true, eq-eqb, cases_eq}
+use Rattle.std.proofs.Common.{◌≡◌, ℕ, zero, suc, ◌^◌, ◌<◌, true, false, eqb, refl, ap, arith}
+use Rattle.std.proofs.lemmas.Nat.Bits.{bit_at_above, bit_at-zero}
+use Rattle.std.proofs.lemmas.Bool.{eqb-true, eq-eqb}
 use Rattle.watch.specs.Marks.{Has, has}
 
 pub has_true : (i set : ℕ) → has i set ≡ true → Has i set
@@ -14,26 +12,12 @@ pub has_from : (i set : ℕ) → Has i set → has i set ≡ true
 has_from zero set h = absurd h
 has_from (suc j) set h = eq-eqb _ _ h
 
--- How the code reads a bit.
-pub bit_test : (mark set : ℕ) → 0 < mark → eqb (bit_and (set / (2 ^ (mark - 1))) 1) 1 ≡ has mark set
-bit_test zero set some_mark = absurd (omega arith)
-bit_test (suc j) set some_mark =
-    let e : suc j - 1 ≡ j = omega arith in
-    ap (λ (n : ℕ). eqb (bit_and (set / (2 ^ n)) 1) 1) e ∙ ap (λ (n : ℕ). eqb n 1) (and_mask (set / (2 ^ j)) 1)
-
 -- A set below 2 ^ n has no mark above n.
 pub has_past : (n mark set : ℕ) → set < 2 ^ n → n < mark → has mark set ≡ false
 has_past n zero set small past = refl
-has_past n (suc j) set small past =
-    ⊎_elim (λ lt. none (omega (arith, pow_below n j lt))) (λ e. none (omega (arith, ap (λ (m : ℕ). 2 ^ m) e))) below
-  where
-    below : (n < j) ⊎ (j ≡ n)
-    below = ⊎_elim (λ e. inr e) (λ ne. inl (omega (arith, ne))) (cases_eq j n)
-
-    none : set < 2 ^ j → eqb ((set / (2 ^ j)) % 2) 1 ≡ false
-    none lt = ap (λ (m : ℕ). eqb (m % 2) 1) (div-eq_of_lt lt)
+has_past n (suc j) set small past = ap (λ (bit : ℕ). eqb bit 1) (bit_at_above set n j small (omega arith))
 
 -- The empty set has no mark.
 pub no_mark : (i : ℕ) → Has i 0 → ⊥
 no_mark zero has = has
-no_mark (suc j) has = omega (arith, zero-div (2 ^ j))
+no_mark (suc j) has = omega (arith, bit_at-zero j)

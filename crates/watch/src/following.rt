@@ -17,12 +17,7 @@ pub struct Passed {
 pub fn stray(letters: &[u16], count: u16) -> Option<usize>
     ensures { Stray count letters.now result }
 {
-    for (place, letter) in letters.iter().enumerate() {
-        if *letter >= count {
-            return Some(place);
-        }
-    }
-    None
+    letters.iter().position(|letter| *letter >= count)
 }
 
 // Follows the watcher along the letters and writes where it stands after each step, for as many steps as
@@ -40,6 +35,7 @@ pub fn follow<W: Watcher>(
         return Err(place);
     }
     let mut state = watcher.start();
+    // By place: of what is written through a `zip` with `iter_mut` a proof knows nothing afterwards.
     for place in 0..letters.len().min(stands.len()) {
         state = watcher.next(state, letters[place]);
         stands[place] = Passed {

@@ -15,12 +15,5 @@ pub const MOST_EVENTS: u8 = 5;
 pub fn letter_count(events: u8) -> Option<u16>
     ensures { MatchOption result (most_events < events) (λ n. (events ≤ most_events) × (n ≡ letter_count events)) }
 {
-    if events > MOST_EVENTS {
-        return None;
-    }
-    let mut count = 1;
-    for _event in 0..events {
-        count *= DIGITS;
-    }
-    Some(count)
+    (events <= MOST_EVENTS).then(|| DIGITS.pow(u32::from(events)))
 }

@@ -1,11 +1,12 @@
 // Marks, and sets of them.
 //
 // A mark is a number from 1 on that a watcher shows once a term can no longer hold.
-ghost use Rattle.std.specs.Prelude.{◌≡◌, ◌++◌, IfOk, string_bytes, decimal, OnOk};
+ghost use Rattle.std.specs.Prelude.{◌≡◌, IfOk, Some, string_bytes};
 ghost use Rattle.watch.specs.Marks.{has};
-ghost use Rattle.watch.specs.MarkTexts.{apart, marks_text};
+ghost use Rattle.watch.specs.MarkTexts.{marks_text};
 
 use std::alloc::{AllocError, Global};
+use std::fmt;
 
 // The most marks that a watcher can have.
 pub const MOST_MARKS: u8 = 8;
@@ -26,38 +27,32 @@ impl MarkSet {
     pub fn has(self, mark: u8) -> bool
         ensures { result ≡ has mark self.bits }
     {
-        if mark == 0 || mark > MOST_MARKS {
-            return false;
-        }
-        (self.bits >> (mark - 1)) & 1 == 1
+        (1..=MOST_MARKS).contains(&mark) && (self.bits >> (mark - 1)) & 1 == 1
     }
-}
 
-// Adds the mark's number to the text, behind a space where the text has one already.
-fn add_mark(heap: Global, text: &mut String, mark: u8) -> Result<(), AllocError>
-    ensures { OnOk result (string_bytes text.new ≡ apart (string_bytes text.old) ++ decimal mark) }
-{
-    let number = format!(in heap; "{mark}")?;
-    if !text.is_empty() {
-        text.push_str(" ")?;
-    }
-    text.push_str(number.as_str())
-}
-
-impl MarkSet {
-    // The numbers of the marks in rising order with a space between two, or `none`.
+    // The set as text.
     pub fn text(self, heap: Global) -> Result<String, AllocError>
         ensures { IfOk result (λ text. string_bytes text ≡ marks_text self.bits) }
     {
-        let mut text = String::new(heap);
+        format!(in heap; "{self}")
+    }
+}
+
+// The numbers of the marks in rising order with a space between two, or `none`.
+impl fmt::Display for MarkSet {
+    ghost output = { λ set. Some (marks_text set.bits) };
+
+    fn fmt<W: fmt::Write>(&self, f: &mut fmt::Formatter<W>) -> fmt::Result {
+        let mut gap = "";
         for mark in 1..=MOST_MARKS {
             if self.has(mark) {
-                add_mark(heap, &mut text, mark)?;
+                write!(f, "{gap}{mark}")?;
+                gap = " ";
             }
         }
-        if text.is_empty() {
-            text.push_str("none")?;
+        if gap.is_empty() {
+            return f.write_str("none");
         }
-        Ok(text)
+        Ok(())
     }
 }

@@ -9,57 +9,64 @@ mod tests {
     use table::Table;
     use watch::{MarkSet, Passed, Watcher, follow};
 
-    // The number with which the list is refused, or 0.
-    fn number_of(heap: Global, list: &[u16]) -> Result<u8, AllocError> {
-        let mut table = Table::blank(heap);
-        match table.read(Vec::from_slice(heap, list)?) {
-            Ok(()) => Ok(0),
-            Err(refusal) => Ok(refusal.number()),
-        }
+    // The number with which the list is refused, if it is.
+    fn number_of(heap: Global, list: &[u16]) -> Result<Option<u8>, AllocError> {
+        let list = Vec::from_slice(heap, list)?;
+        let answer = Table::blank(heap).read(list);
+        Ok(answer.err().map(|refusal| refusal.number()))
     }
 
     // A table without marks: so many states over one event, from which every letter leads to state 0.
     fn plain(heap: Global, states: u16) -> Result<Vec<u16>, AllocError> {
         let mut list = vec![in heap; states, 1, 1]?;
-        for _ in 0..states {
-            list.extend_from_slice(&[0, 0, 0, 0])?;
-        }
+        list.resize(3 + 4 * usize::from(states), 0)?;
         Ok(list)
     }
 
     // Mark 1 once the event has started.
-    fn started(heap: Global) -> Result<Table, AllocError> {
+    fn started(heap: Global) -> Result<Table, Fail> {
         let mut table = Table::blank(heap);
-        let list = Vec::from_slice(heap, &[2, 1, 1, 0, 1, 0, 1, 0, 1, 1, 1])?;
-        let _ = table.read(list);
+        table.read(Vec::from_slice(heap, &[2, 1, 1, 0, 1, 0, 1, 0, 1, 1, 1])?)?;
         Ok(table)
     }
 
     #[test]
     fn lists_are_read_or_refused(rt: HostRuntime) -> Result<(), Fail> {
         let heap = rt.alloc();
-        assert_eq!(rt; number_of(heap, &[1, 1, 1, 0, 0, 0, 0])?, 0);
-        assert_eq!(rt; number_of(heap, &[2, 1, 1, 0, 1, 0, 1, 0, 1, 1, 1])?, 0);
-        assert_eq!(rt; number_of(heap, &[])?, 30, "no sizes");
-        assert_eq!(rt; number_of(heap, &[1, 1])?, 30, "two words");
-        assert_eq!(rt; number_of(heap, &[0, 1, 1])?, 30, "no state");
-        assert_eq!(rt; number_of(heap, &[1, 0, 1, 0, 0])?, 30, "no event");
-        assert_eq!(rt; number_of(heap, &[1, 1, 9, 0, 0, 0, 0])?, 30, "nine marks");
-        assert_eq!(rt; number_of(heap, &[1, 1, 1, 0, 0, 0])?, 30, "one word short");
+        assert_eq!(rt; number_of(heap, &[1, 1, 1, 0, 0, 0, 0])?, None);
+        assert_eq!(rt; number_of(heap, &[2, 1, 1, 0, 1, 0, 1, 0, 1, 1, 1])?, None);
+        assert_eq!(rt; number_of(heap, &[])?, Some(30), "no sizes");
+        assert_eq!(rt; number_of(heap, &[1, 1])?, Some(30), "two words");
+        assert_eq!(rt; number_of(heap, &[0, 1, 1])?, Some(30), "no state");
+        assert_eq!(rt; number_of(heap, &[1, 0, 1, 0, 0])?, Some(30), "no event");
+        assert_eq!(rt;
+            number_of(heap, &[1, 1, 9, 0, 0, 0, 0])?,
+            Some(30),
+            "nine marks"
+        );
+        assert_eq!(rt;
+            number_of(heap, &[1, 1, 1, 0, 0, 0])?,
+            Some(30),
+            "one word short"
+        );
         assert_eq!(rt;
             number_of(heap, &[1, 1, 1, 0, 0, 0, 0, 0])?,
-            30,
+            Some(30),
             "one word long"
         );
-        assert_eq!(rt; number_of(heap, &[1, 1, 1, 2, 0, 0, 0])?, 31, "mark 2 of 1");
+        assert_eq!(rt;
+            number_of(heap, &[1, 1, 1, 2, 0, 0, 0])?,
+            Some(31),
+            "mark 2 of 1"
+        );
         assert_eq!(rt;
             number_of(heap, &[1, 1, 1, 0, 0, 1, 0])?,
-            31,
+            Some(31),
             "state 1 of 1"
         );
         assert_eq!(rt;
             number_of(heap, &[2, 1, 1, 1, 0, 0, 0, 1, 0, 0, 0])?,
-            31,
+            Some(31),
             "a mark is lost"
         );
         Ok(())
@@ -70,8 +77,8 @@ mod tests {
         let heap = rt.alloc();
         let most = plain(heap, 1024)?;
         let more = plain(heap, 1025)?;
-        assert_eq!(rt; number_of(heap, most.as_slice())?, 0);
-        assert_eq!(rt; number_of(heap, more.as_slice())?, 30);
+        assert_eq!(rt; number_of(heap, most.as_slice())?, None);
+        assert_eq!(rt; number_of(heap, more.as_slice())?, Some(30));
         Ok(())
     }
 
@@ -82,6 +89,15 @@ mod tests {
         assert!(rt; table.read(plain(heap, 1025)?).is_err());
         assert_eq!(rt; table.sizes().states, 2);
         assert_eq!(rt; table.shown(1).bits, 1);
+        Ok(())
+    }
+
+    #[test]
+    fn a_set_is_written_in_rising_order(rt: HostRuntime) -> Result<(), Fail> {
+        let heap = rt.alloc();
+        let set = MarkSet { bits: 0b1000_0101 };
+        assert_eq!(rt; set.text(heap)?.as_str(), "1 3 8");
+        assert_eq!(rt; MarkSet::EMPTY.text(heap)?.as_str(), "none");
         Ok(())
     }
 
@@ -98,11 +114,10 @@ mod tests {
             shown: MarkSet::EMPTY,
         };
         let mut stands = [blank; 4];
-        let appeared = follow(&delay, &[1, 1, 0, 1], &mut stands);
-        assert_eq!(rt; appeared.ok().ok_or("refused")?.bits, 1);
-        let [a, b, c, d] = stands;
-        assert_eq!(rt; (a.state, b.state, c.state, d.state), (3, 0, 0, 1));
-        assert_eq!(rt; (c.shown.bits, d.shown.bits), (0, 1));
+        let appeared = follow(&delay, &[1, 1, 0, 1], &mut stands)?;
+        assert_eq!(rt; appeared.bits, 1);
+        assert_eq!(rt; stands.map(|stand| stand.state), [3, 0, 0, 1]);
+        assert_eq!(rt; stands.map(|stand| stand.shown.bits), [0, 0, 0, 1]);
         Ok(())
     }
 

@@ -1,16 +1,10 @@
-use Rattle.std.proofs.Common.{◌≡◌, ℕ, ◌*◌, ◌^◌, ◌≤◌, sym, ap, ◌∙◌, pow-suc, add-one, arith}
+use Rattle.std.proofs.Common.{ℕ, ◌^◌, ◌<◌, ◌≤◌, arith}
+use Rattle.std.proofs.iter.Serving.{serving}
 use native.Mathlib.Nat.{pow-le-pow_right}
-use Rattle.watch.specs.Letters.{digits, most_events}
 use Rattle.watch.proofs.letters.letter_count.Goals as goal
 
-pub overflow_mul-count : goal.overflow_mul-count
-overflow_mul-count c =
-    let few : c.loop-event._event ≤ most_events = omega arith in
-    let power : digits ^ c.loop-event._event ≤ digits ^ most_events = pow-le-pow_right {n = digits} (omega arith) few in
-    let is : c.loop-event.count ≡ digits ^ c.loop-event._event = c.loop-event.invariant in
-    omega arith
+power_fits : (n : ℕ) → n ≤ 5 → 3 ^ n < 2 ^ 16
+power_fits n few = let power : 3 ^ n ≤ 3 ^ 5 = pow-le-pow_right {n = 3} (omega arith) few in omega arith
 
-pub loop-event-preserved : goal.loop-event-preserved
-loop-event-preserved c =
-    ap (λ (n : ℕ). n * digits) c.loop-event.invariant
-    ∙ (sym (pow-suc digits c.loop-event._event) ∙ ap (λ (n : ℕ). digits ^ n) (sym (add-one _)))
+pub then-requires : goal.then-requires
+then-requires c = grind (serving, arith, power_fits)
