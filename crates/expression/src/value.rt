@@ -10,10 +10,7 @@ ghost use Rattle.expression.specs.inner.Parsing.{first, others, parsed};
 use crate::expression::Expression;
 use crate::token::Token;
 use std::{array, slice};
-use watch::MarkSet;
-
-// How many sets of marks there are.
-const SETS: usize = 256;
+use watch::{MARK_SETS, MarkSet};
 
 // Whether the mark of the term is in the set. Beyond a byte there are no marks.
 fn is_shown(term: u32, shown: MarkSet) -> bool
@@ -52,7 +49,7 @@ impl Expression {
     }
 
     // The value at each set of marks, the set as a number being its place.
-    pub fn truths(&self) -> [bool; SETS]
+    pub fn truths(&self) -> [bool; MARK_SETS]
         ensures size { length result ≡ 256 }
         ensures values { (s : ℕ) → s < 256 → slice_index_or result s false ≡ eval (formula self.now) s }
     {
