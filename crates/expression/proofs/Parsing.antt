@@ -1,7 +1,7 @@
 -- Reading words in prefix order undoes writing them. Assumes nothing.
 use Rattle.std.proofs.Common.{◌≡◌, ℕ, zero, suc, ◌+◌, true, false, List, [], ◌∷◌, ◌++◌, length, get_or, drop, ◌<◌, add_comm, sym, refl, ap, ◌∙◌, append_assoc, append-nil, zero-add, arith}
 use Rattle.std.proofs.lemmas.Bool.{eqb-true, both_ways}
-use Rattle.std.proofs.lemmas.List.{append_cancel_left, at_drop_more}
+use Rattle.std.proofs.lemmas.List.{at_drop_more}
 use Rattle.expression.specs.Formulas.{Formula, term, not, and, or, implies}
 use Rattle.expression.specs.Writing.{written}
 use Rattle.expression.specs.inner.Parsing.{first, before, parsed, operands, whole}
@@ -26,10 +26,6 @@ first_written f = ap (λ (ts : List Token). first (parsed ts)) (sym (append-nil 
 -- Words begin with the words of one formula at most.
 pub one_formula : (f g : Formula) (r s : List Token) → written f ++ r ≡ written g ++ s → f ≡ g
 one_formula f g r s e = let both : f ∷ parsed r ≡ g ∷ parsed s = sym (parsed_written f r) ∙ (ap parsed e ∙ parsed_written g s) in cc
-
-pub one_rest : (f g : Formula) (r s : List Token) → written f ++ r ≡ written g ++ s → r ≡ s
-one_rest f g r s e =
-    append_cancel_left (written g) r s (ap (λ (h : Formula). written h ++ r) (sym (one_formula f g r s e)) ∙ e)
 
 -- The words of some formulas, one after another.
 abbrev pub all_written : List Formula → List Token

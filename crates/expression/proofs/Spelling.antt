@@ -1,11 +1,13 @@
 -- The bytes of words: each is clean, and no two words have the same. Assumes nothing.
-use Rattle.std.proofs.Common.{◌≡◌, ℕ, ◌<◌, true, false, cond, eqb, leb, ◌⊎◌, List, [], ◌∷◌, map, length, codes, decimal, sym, refl, ap, ◌∙◌, inl, inr, arith}
+use Rattle.std.proofs.Common.{◌≡◌, ℕ, ◌<◌, true, false, cond, eqb, leb, ◌⊎◌, List, [], ◌∷◌, map, length, get_or, codes, decimal, sym, refl, ap, ◌∙◌, inl, inr, arith}
 use Rattle.std.specs.Char.{is_ascii_digit}
 use Rattle.std.specs.List.{list_all}
 use Rattle.std.specs.Str.{bytes_eq}
 use Rattle.std.specs.Str.Parse.{digits_value}
 use Rattle.std.proofs.lemmas.Slice.Eq.{bytes_eq-Decides}
 use Rattle.std.proofs.lemmas.Fmt.{digits_value-decimal, decimal_nonempty}
+use Rattle.std.proofs.lemmas.List.Folds.{list_all-map}
+use Rattle.std.proofs.lemmas.List.Sums.{AllPass-from_list_all, list_all-from_AllPass}
 use Rattle.std.proofs.lemmas.Bool.{cases_Bool, cond-false, ltb-true, leb-true, le-leb, ne_eqb, not_from_false, and_parts, and_from, both_ways}
 use Rattle.text.specs.Words.{words}
 use Rattle.text.specs.Lines.{unended, Ends}
@@ -61,10 +63,7 @@ digit_visible b h =
     and_from (leb 33 b) (leb b 126) (le-leb 33 b (omega arith)) (le-leb b 126 (omega arith))
 
 digits_visible : (w : List ℕ) → list_all is_ascii_digit w ≡ true → list_all visible w ≡ true
-digits_visible [] h = refl
-digits_visible (b ∷ w) h =
-    let p = and_parts (is_ascii_digit b) (list_all is_ascii_digit w) h in
-    and_from (visible b) (list_all visible w) (digit_visible b p.0) (digits_visible w p.1)
+digits_visible w h = list_all-from_AllPass visible w (λ i d l. digit_visible (get_or w i d) (AllPass-from_list_all is_ascii_digit w h i d l))
 
 clean_spelled : (t : Token) → in_range t ≡ true → clean_word (spelled t) ≡ true
 clean_spelled And h = refl
@@ -79,10 +78,9 @@ clean_spelled (Term n) h =
     (digits_visible (decimal n) (decimal_digits n low))
 
 clean_all : (ts : List Token) → list_all in_range ts ≡ true → list_all clean_word (map spelled ts) ≡ true
-clean_all [] h = refl
-clean_all (t ∷ ts) h =
-    let p = and_parts (in_range t) (list_all in_range ts) h in
-    and_from (clean_word (spelled t)) (list_all clean_word (map spelled ts)) (clean_spelled t p.0) (clean_all ts p.1)
+clean_all ts h =
+    list_all-map clean_word spelled ts
+    ∙ list_all-from_AllPass _ ts (λ i d l. clean_spelled (get_or ts i d) (AllPass-from_list_all in_range ts h i d l))
 
 some_words : (f : Formula) → 0 < length (map spelled (written f))
 some_words (term i) = omega arith

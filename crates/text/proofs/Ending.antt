@@ -1,11 +1,13 @@
 -- Texts with and without a last line feed. Assumes nothing.
 use Rattle.std.proofs.Common.{◌≡◌, ◌≢◌, ℕ, Bool, Bor, Option, None, Some, MatchOption, unwrap_or, ⊎_elim, true, false, not, eqb, leb, ◌⊎◌, List, [], ◌∷◌, ◌++◌, length, sym, refl, ap, ◌∙◌, inl, inr, append-nil, arith}
 use Rattle.std.proofs.lemmas.Bool.{cases_Bool, cond-true, cond-false, eqb-true, ne_eqb, and_parts, and_from, leb-true, not-true, not_from_false}
+use Rattle.std.specs.List.{list_all}
+use Rattle.std.proofs.lemmas.List.Folds.{list_all-append}
+use Rattle.std.proofs.lemmas.List.Sums.{AllPass-from_list_all, list_all-from_AllPass}
+use Rattle.std.proofs.lemmas.List.Splits.{join_with_byte-slice_split}
 use Rattle.text.specs.Words.{words, joined}
 use Rattle.text.specs.Lines.{unended, Ends}
-use Rattle.std.specs.List.{list_all}
 use Rattle.text.specs.Clean.{visible, clean_word, clean}
-use Rattle.std.proofs.lemmas.List.Splits.{join_with_byte-slice_split}
 
 -- A line feed behind a text is taken off again.
 pub unended_fed : (bs : List ℕ) → unended (bs ++ 10 ∷ []) ≡ bs
@@ -48,10 +50,9 @@ no_feed b h =
     not_from_false (eqb b 10) (ne_eqb b 10 (λ (e : b ≡ 10). omega arith))
 
 unfed_append : (w rest : List ℕ) → list_all visible w ≡ true → unfed rest ≡ true → unfed (w ++ rest) ≡ true
-unfed_append [] rest h k = k
-unfed_append (b ∷ w) rest h k =
-    let p = and_parts (visible b) (list_all visible w) h in
-    and_from (not (eqb b 10)) (unfed (w ++ rest)) (no_feed b p.0) (unfed_append w rest p.1 k)
+unfed_append w rest h k =
+    list_all-append _ w rest
+    ∙ and_from _ _ (list_all-from_AllPass _ w (λ i d l. no_feed _ (AllPass-from_list_all visible w h i d l))) k
 
 seen : (w : List ℕ) → clean_word w ≡ true → list_all visible w ≡ true
 seen w h = (and_parts (not (eqb (length w) 0)) (list_all visible w) h).1
