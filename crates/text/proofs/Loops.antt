@@ -1,7 +1,6 @@
 -- The steps of a loop over a slice whose answer a recursion over the list defines: what is left gives the answer. Assumes nothing.
 use Rattle.std.proofs.Common.{◌≡◌, ℕ, ◌+◌, ◌-◌, ◌<◌, ◌≤◌, Bool, true, false, ◌&&◌, ◌||◌, List, [], ◌∷◌, length, get_or, take, drop, sym, ap, ◌∙◌}
 use Rattle.std.proofs.lemmas.List.{at_drop_more, at_drop_all, take_rest}
-use Rattle.text.specs.Clean.{every}
 use Rattle.text.specs.Lists.{some}
 
 module _ {X Y : Type 0} (f : List X → Y) (xs : List X) (i : ℕ) where
@@ -30,17 +29,6 @@ fail false r v e s = s
 pub pass : (h r v : Bool) → h ≡ true → (h && r) ≡ v → r ≡ v
 pass true r v e s = s
 pass false r v e s = cc
-
--- a loop that asks each byte
-module _ (p : ℕ → Bool) (v : Bool) (xs : List ℕ) (i : ℕ) (inv : every p (drop i xs) ≡ v) where
-  pub byte_passes : i < length xs → p (get_or xs i 0) ≡ true → every p (drop (i + 1) xs) ≡ v
-  byte_passes h e = pass _ _ v e (sym (at_drop_more (every p) xs i 0 h) ∙ inv)
-
-  pub byte_fails : i < length xs → p (get_or xs i 0) ≡ false → false ≡ v
-  byte_fails h e = fail _ _ v e (sym (at_drop_more (every p) xs i 0 h) ∙ inv)
-
-  pub bytes_end : length xs ≤ i → true ≡ v
-  bytes_end h = sym (at_drop_all (every p) xs i h) ∙ inv
 
 -- a part of a slice from a place to its end
 pub some_rest : {X : Type 0} (p : X → Bool) (xs : List X) (i : ℕ) → some p (take (length xs - i) (drop i xs)) ≡ some p (drop i xs)
