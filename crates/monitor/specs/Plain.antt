@@ -66,27 +66,23 @@ accepts Accepted = true
 accepts (Refused refusal) = false
 accepts (Says word closed) = false
 
--- The answer to one call is the plain monitor's; to a question, the right word and the number of closed steps.
-abbrev pub RightAnswer : Watching → Formula → Plain → Call → Answer → Type 0
-RightAnswer w f p (Note e k) a = a ≡ answered (note_answer w.events p e k)
-RightAnswer w f p Close a = a ≡ answered (close_answer p)
-RightAnswer w f p Ask a = (word : Word) × ((a ≡ Says word (length p.closed)) × RightWord w f p.closed word)
-
--- The answers to a list of calls are the plain monitor's, call by call.
-abbrev pub Agrees : Watching → Formula → Plain → List Call → List Answer → Type 0
-Agrees w f p [] [] = Unit {0}
-Agrees w f p [] (a ∷ more) = ⊥
-Agrees w f p (c ∷ cs) [] = ⊥
-Agrees w f p (c ∷ cs) (a ∷ more) = RightAnswer w f p c a × Agrees w f (after w.events p c) cs more
-
--- The same over g events, where `right` says which word is right after some closed steps.
+-- The answer to one call is the plain monitor's over g events; to a question, a word that is right after the closed steps, as `right` says,
+-- and their number.
 abbrev pub AnswersBy : ℕ → (List ℕ → Word → Type 0) → Plain → Call → Answer → Type 0
 AnswersBy g right p (Note e k) a = a ≡ answered (note_answer g p e k)
 AnswersBy g right p Close a = a ≡ answered (close_answer p)
 AnswersBy g right p Ask a = (word : Word) × ((a ≡ Says word (length p.closed)) × right p.closed word)
 
+-- The answers to a list of calls are the plain monitor's, call by call.
 abbrev pub AgreesBy : ℕ → (List ℕ → Word → Type 0) → Plain → List Call → List Answer → Type 0
 AgreesBy g right p [] [] = Unit {0}
 AgreesBy g right p [] (a ∷ more) = ⊥
 AgreesBy g right p (c ∷ cs) [] = ⊥
 AgreesBy g right p (c ∷ cs) (a ∷ more) = AnswersBy g right p c a × AgreesBy g right (after g p c) cs more
+
+-- The same over a watcher and a formula: the right word is that of the endless continuations.
+abbrev pub RightAnswer : Watching → Formula → Plain → Call → Answer → Type 0
+RightAnswer w f = AnswersBy w.events (RightWord w f)
+
+abbrev pub Agrees : Watching → Formula → Plain → List Call → List Answer → Type 0
+Agrees w f = AgreesBy w.events (RightWord w f)

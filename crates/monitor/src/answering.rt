@@ -22,8 +22,9 @@ pub fn answer_all<W: Watcher + Drop>(
 {
     let mut monitor = Monitor::open(watcher, expression);
     let count = calls.len().min(answers.len());
-    for place in 0..count {
-        answers[place] = monitor.call(calls[place]);
+    // A `zip` with `answers.iter_mut()` would leave the proof without the answers.
+    for (place, call) in calls[..count].iter().enumerate() {
+        answers[place] = monitor.call(*call);
     }
     count
 }

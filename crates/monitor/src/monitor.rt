@@ -5,7 +5,7 @@
 ghost use Rattle.std.specs.Prelude.{◌≡◌, false, length, is_ok};
 ghost use Rattle.expression.specs.Expressions.{formula};
 ghost use Rattle.monitor.specs.Words.{RightWord};
-ghost use Rattle.monitor.specs.Plain.{Plain, opened, note_answer, close_answer, answered as plainly, accepts};
+ghost use Rattle.monitor.specs.Plain.{Plain, opened, note_answer, close_answer, accepts};
 ghost use Rattle.monitor.specs.inner.Standing.{Represents, Takes, Answers, Same};
 
 use crate::calls::{Answer, Call};
@@ -23,15 +23,6 @@ pub struct Monitor<W> {
     pub(crate) expression: Expression,
     pub(crate) outlook: Outlook,
     pub(crate) running: Running,
-}
-
-fn answered(taken: Result<(), Refusal>) -> Answer
-    ensures { result ≡ plainly taken }
-{
-    match taken {
-        Ok(()) => Answer::Accepted,
-        Err(refusal) => Answer::Refused(refusal),
-    }
 }
 
 impl<W: Watcher> Monitor<W> {
@@ -83,8 +74,8 @@ impl<W: Watcher> Monitor<W> {
         ensures answers { Answers (W.watching self.old.watcher) (formula self.old.expression) self.old call result self.new }
     {
         match call {
-            Call::Note(event, kind) => answered(self.note(event, kind)),
-            Call::Close => answered(self.close()),
+            Call::Note(event, kind) => Answer::from(self.note(event, kind)),
+            Call::Close => Answer::from(self.close()),
             Call::Ask => {
                 let (word, closed) = self.verdict();
                 Answer::Says(word, closed)

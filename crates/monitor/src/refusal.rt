@@ -1,6 +1,9 @@
 // Why a note or a closing is not taken.
 ghost use Rattle.std.specs.Prelude.{◌≡◌};
 ghost use Rattle.monitor.specs.Refusals.{refusal_number};
+ghost use Rattle.monitor.specs.declared.refusal.Refusal.TheVariants.{Event};
+
+use watch::UnknownKind;
 
 #[derive(Clone, Copy, PartialEq, Eq, Debug)]
 pub enum Refusal {
@@ -17,5 +20,14 @@ impl Refusal {
         ensures { result ≡ refusal_number self }
     {
         self as u8
+    }
+}
+
+// A kind that does not exist is refused like an event that does not.
+impl From<UnknownKind> for Refusal {
+    ghost from_gives = { λ _ refusal. refusal ≡ Event };
+
+    fn from(_: UnknownKind) -> Refusal {
+        Refusal::Event
     }
 }

@@ -4,49 +4,35 @@ ghost use Rattle.watch.specs.Letters.{most_events};
 ghost use Rattle.watch.specs.Watchers.{Watching};
 ghost use Rattle.outlook.specs.Outlooks.{at};
 ghost use Rattle.monitor.specs.Plain.{Plain, opened, note_answer, close_answer, after};
-ghost use Rattle.monitor.specs.inner.Running.{Follows, spelt, word_of};
+ghost use Rattle.monitor.specs.inner.Running.{Follows, word_of};
 
 use crate::calls::Call;
 use crate::refusal::Refusal;
 use crate::word::Word;
 use outlook::Outlook;
-use watch::{DIGITS, Watcher};
-
-// The kinds of a note: an event is starting, or ongoing.
-const STARTING: u8 = 1;
-
-const ONGOING: u8 = 2;
+use watch::{Kind, Step, Watcher};
 
 // The most steps that can be closed.
 const MOST_CLOSED: u32 = 1_000_000;
 
-#[derive(Clone, Copy)]
+#[derive(Clone, Copy, PartialEq, Eq, Debug)]
 pub struct Running {
     // The watcher's state after the closed steps.
     pub(crate) state: u16,
     // How many steps are closed.
     pub(crate) closed: u32,
-    // The step in progress: each event's digit, 0 while it has no note.
-    pub(crate) digits: [u8; 5],
-}
-
-// Whether there are such an event and such a kind.
-fn is_lawful(events: u8, event: u8, kind: u8) -> bool
-    ensures { result ≡ nat_lt event events && (kind == 1 || kind == 2) }
-{
-    event < events && (kind == STARTING || kind == ONGOING)
+    // The step in progress: an event is absent in it while it has no note.
+    pub(crate) step: Step,
 }
 
 // The word at a state, by what can still come of it.
 fn word_of(keepable: bool, breakable: bool) -> Word
     ensures { result ≡ word_of keepable breakable }
 {
-    if !keepable {
-        Word::Violated
-    } else if !breakable {
-        Word::Satisfied
-    } else {
-        Word::Open
+    match (keepable, breakable) {
+        (false, _) => Word::Violated,
+        (true, false) => Word::Satisfied,
+        (true, true) => Word::Open,
     }
 }
 
@@ -54,8 +40,7 @@ fn word_of(keepable: bool, breakable: bool) -> Word
 fn says(table: &[bool], state: u16) -> bool
     ensures { result ≡ at table.now state }
 {
-    let place = state as usize;
-    place < table.len() && table[place]
+    table.get(usize::from(state)) == Some(&true)
 }
 
 impl Running {
@@ -66,17 +51,8 @@ impl Running {
         Running {
             state: start,
             closed: 0,
-            digits: [0; 5],
+            step: Step::QUIET,
         }
-    }
-
-    // The letter of the step in progress.
-    fn letter(&self) -> u16
-        ensures { result ≡ spelt self.now.digits }
-    {
-        let [a, b, c, d, e] = self.digits;
-        let last = u16::from(d) + DIGITS * u16::from(e);
-        u16::from(a) + DIGITS * (u16::from(b) + DIGITS * (u16::from(c) + DIGITS * last))
     }
 
     pub(crate) fn note(&mut self, events: u8, event: u8, kind: u8) -> Result<(), Refusal>
@@ -84,13 +60,15 @@ impl Running {
         ensures unmoved { is_ok result ≡ false → self.new ≡ self.old }
         ensures right { (w : Watching) (plain : Plain) → events ≡ w.events → Follows w plain self.old → (result ≡ note_answer events plain event kind) × Follows w (after events plain (Call.Note event kind)) self.new }
     {
-        if !is_lawful(events, event, kind) {
+        let kind = Kind::try_from(kind)?;
+        if event >= events {
             return Err(Refusal::Event);
         }
-        if self.digits[event as usize] != 0 {
+        let place = usize::from(event);
+        if self.step.kinds[place].is_some() {
             return Err(Refusal::Noted);
         }
-        self.digits[event as usize] = kind;
+        self.step.kinds[place] = Some(kind);
         Ok(())
     }
 
@@ -101,10 +79,10 @@ impl Running {
         if self.closed >= MOST_CLOSED {
             return Err(Refusal::Steps);
         }
-        let next = watcher.next(self.state, self.letter());
+        let next = watcher.next(self.state, self.step.letter());
         self.state = next;
         self.closed += 1;
-        self.digits = [0; 5];
+        self.step = Step::QUIET;
         Ok(())
     }
 

@@ -2,7 +2,8 @@
 use Rattle.std.proofs.Common.{◌≡◌, ℕ, suc, Bool, true, false, cond, eqb, ◌⊎◌, List, [], ◌∷◌, ◌++◌, map, refl, ap, subst, inl, inr, ⊎_elim}
 use Rattle.osl.specs.Osl.{Event, IndEvent, start, ongoing, ◌∈◌}
 use Rattle.osl.specs.Terms.{as_event}
-use Rattle.osl.specs.Traces.{digit, entries, entries_from}
+use Rattle.watch.specs.Steps.{digit}
+use Rattle.osl.specs.Traces.{entries, entries_from}
 use Rattle.osl.specs.Sets.{SameEvent, SameEntry, Apart, StepsAreSets, CountsAreSizes}
 use Rattle.osl.proofs.Deciding.{satisfies_decides}
 

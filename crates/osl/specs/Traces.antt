@@ -1,17 +1,13 @@
 -- A run of letters over declared events as a trace of OSL. Assumes nothing.
-use Rattle.std.specs.Prelude.{ℕ, suc, ◌/◌, ◌%◌, ◌^◌, cond, List, [], ◌∷◌, ◌++◌, map, ◌==◌}
+use Rattle.std.specs.Prelude.{ℕ, suc, cond, List, [], ◌∷◌, ◌++◌, map, ◌==◌}
 use Rattle.std.specs.Str.{bytes_eq}
 use Rattle.text.specs.Names.{name_bytes}
-use Rattle.watch.specs.Letters.{digits}
 use Rattle.watch.specs.Runs.{Run}
+use Rattle.watch.specs.Steps.{digit}
 use Rattle.osl.specs.declared.event.Event as declared
 use Rattle.osl.specs.Osl as osl
 use Rattle.osl.specs.Osl.{Word, Class, Event, start, ongoing, IndEvent, Trace}
 use Rattle.osl.specs.Terms.{as_class, as_event}
-
--- the digit of event number e in a letter
-abbrev pub digit : ℕ → ℕ → ℕ
-digit letter e = (letter / digits ^ e) % digits
 
 -- An event with digit 1 is starting, with digit 2 ongoing, and else absent.
 abbrev pub entries : Event → ℕ → List IndEvent

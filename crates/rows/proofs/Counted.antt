@@ -7,12 +7,12 @@ use Rattle.osl.specs.declared.event.Pattern.{Pattern}
 use Rattle.osl.specs.Osl as osl
 use Rattle.osl.specs.Osl.{IndEvent, Formula, count, refines?, satisfies?}
 use Rattle.osl.specs.Terms.{as_event, as_pattern}
-use Rattle.osl.specs.Traces.{digit, entries, entries_from}
+use Rattle.osl.specs.Traces.{entries, entries_from}
 use Rattle.osl.specs.Matching.{chosen, matches}
 use Rattle.osl.proofs.Deciding.{happens, none}
 use Rattle.rows.specs.declared.counting.Doing.{Doing}
 use Rattle.rows.specs.declared.counting.Doing.TheVariants.{Starting, StartingOrOngoing}
-use Rattle.rows.specs.Steps.{digits_from}
+use Rattle.watch.specs.Steps.{digit, digits_from}
 use Rattle.rows.specs.Stepping.{means, tally}
 
 -- the event expression for what is meant

@@ -30,7 +30,7 @@ use Rattle.osl.proofs.Deciding.{happens, none, is_usage, stray_name, stray_param
 use Rattle.rows.specs.declared.counting.Doing.{Doing}
 use Rattle.rows.specs.declared.counting.Doing.TheVariants.{Starting, StartingOrOngoing}
 use Rattle.rows.specs.Moves.{Never}
-use Rattle.rows.specs.Steps.{digits_of}
+use Rattle.watch.specs.Steps.{digits_of}
 use Rattle.rows.specs.Stepping.{occurs, absent, truth, number, moved, broken}
 use Rattle.rows.specs.Meaning.{Declared, Lawful, Tells, RowMeansItsFormula}
 use Rattle.rows.proofs.Streams.{until_right, always_right, after_right, within_right, during_right, most_right, repmax_right, answer_right}

@@ -1,4 +1,3 @@
 pub mod Moves
-pub mod Steps
 pub mod Stepping
 pub mod Meaning

@@ -14,7 +14,7 @@ use Rattle.osl.specs.Terms.{pairs, as_class, row_formula}
 use Rattle.osl.specs.Traces.{trace, class_of}
 use Rattle.osl.specs.Resolving.{matched_by}
 use Rattle.rows.specs.Moves.{path, Never}
-use Rattle.rows.specs.Steps.{digits_of}
+use Rattle.watch.specs.Steps.{digits_of}
 use Rattle.rows.specs.Stepping.{moved, broken}
 
 -- What the declared events have to meet: there are few enough, and those of one name have one class.

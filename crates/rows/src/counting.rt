@@ -1,9 +1,12 @@
 // Tests and counts in a step, over the sets of declared events that their patterns match.
-ghost use Rattle.std.specs.Prelude.{◌≡◌, ◌≤◌, ◌&&◌, if◌then◌else◌};
-ghost use Rattle.rows.specs.Stepping.{means, tally, truth, absent, number as count_of};
+ghost use Rattle.std.specs.Prelude.{◌≡◌, ◌≤◌, ◌&&◌, Bool, Option, count_by, length};
+ghost use Rattle.std.specs.List.{zip};
+ghost use Rattle.watch.specs.declared.kind.Kind.{Kind};
+ghost use Rattle.watch.specs.Steps.{digit_of, step_digits};
+ghost use Rattle.rows.specs.Stepping.{means, tally, truth, absent, number as count_in};
 
-use crate::step::Step;
 use osl::{Count, EventSet, Test};
+use watch::{Kind, Step};
 
 // Which doings of an event are meant.
 #[derive(Clone, Copy)]
@@ -13,44 +16,46 @@ pub(crate) enum Doing {
 }
 
 impl Doing {
-    // Whether an event with this digit does so.
-    fn is_meant(self, digit: u8) -> bool
-        ensures { result ≡ means self digit }
+    // Whether an event that does this, or is absent, does what is meant.
+    fn is_meant(self, kind: Option<Kind>) -> bool
+        ensures { result ≡ means self (digit_of kind) }
     {
         match self {
-            Doing::Starting => digit == 1,
-            Doing::StartingOrOngoing => digit == 1 || digit == 2,
+            Doing::Starting => kind == Some(Kind::Starting),
+            Doing::StartingOrOngoing => kind.is_some(),
         }
     }
 
-    // What an event with this digit adds to a count, if it is one of the set.
-    fn adds(self, is_chosen: bool, digit: u8) -> u16
-        ensures value { result ≡ (if is_chosen && means self digit then 1 else 0) }
-        ensures bound { result ≤ 1 }
+    // Whether an event counts that is chosen or not, and does this or is absent.
+    fn counts(self, chosen: bool, kind: Option<Kind>) -> bool
+        ensures { result ≡ chosen && means self (digit_of kind) }
     {
-        if is_chosen && self.is_meant(digit) {
-            1
-        } else {
-            0
-        }
+        chosen && self.is_meant(kind)
     }
+}
+
+// How many events count, of those that are chosen or not and have these kinds.
+fn count_of(chosen: &[bool], kinds: &[Option<Kind>], doing: Doing) -> usize
+    ensures value { result ≡ count_by (λ (event : Bool × Option Kind). event.0 && means doing (digit_of event.1)) (zip chosen.now kinds.now) }
+    ensures bound { result ≤ length chosen.now }
+{
+    let events = chosen.iter().zip(kinds.iter());
+    events
+        .filter(|event| doing.counts(*event.0, *event.1))
+        .count()
 }
 
 // How many events of the set do so in the step: each counts once.
 fn count(set: &EventSet, doing: Doing, step: &Step) -> u16
-    ensures value { result ≡ tally doing set.now.flags step.now.digits }
+    ensures value { result ≡ tally doing set.now.flags (step_digits step.now) }
     ensures bound { result ≤ 5 }
 {
-    let mut total = 0;
-    for (event, chosen) in set.flags.iter().enumerate() {
-        total += doing.adds(*chosen, step.digits[event]);
-    }
-    total
+    count_of(&set.flags, &step.kinds, doing) as u16
 }
 
 // Whether the test holds in the step, its pattern matching the events of the set.
 pub(crate) fn holds(test: &Test, set: &EventSet, step: &Step) -> bool
-    ensures { result ≡ truth test.now set.now step.now.digits }
+    ensures { result ≡ truth test.now set.now (step_digits step.now) }
 {
     match test {
         Test::True => true,
@@ -64,14 +69,14 @@ pub(crate) fn holds(test: &Test, set: &EventSet, step: &Step) -> bool
 
 // Whether no event of the set is starting or ongoing.
 pub(crate) fn is_absent(set: &EventSet, step: &Step) -> bool
-    ensures { result ≡ absent set.now step.now.digits }
+    ensures { result ≡ absent set.now (step_digits step.now) }
 {
     count(set, Doing::StartingOrOngoing, step) == 0
 }
 
 // What is counted in the step.
 pub(crate) fn number(counted: &Count, set: &EventSet, step: &Step) -> u16
-    ensures value { result ≡ count_of counted.now set.now step.now.digits }
+    ensures value { result ≡ count_in counted.now set.now (step_digits step.now) }
     ensures bound { result ≤ 5 }
 {
     match counted {

@@ -3,8 +3,6 @@
 
 mod counting;
 mod moves;
-mod step;
 mod stepping;
 
-pub use step::Step;
 pub use stepping::{next, shows, states};

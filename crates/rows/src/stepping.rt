@@ -1,13 +1,14 @@
 // A row step by step.
 ghost use Rattle.std.specs.Prelude.{◌≡◌, ◌<◌, ◌≤◌, List, ◌==◌};
 ghost use Rattle.osl.specs.declared.event.Event.{Event};
+ghost use Rattle.watch.specs.Steps.{step_digits};
 ghost use Rattle.rows.specs.Stepping.{moved, broken, states as state_count};
 ghost use Rattle.rows.specs.Meaning.{Declared, Lawful, RowMeansItsFormula};
 
 use crate::counting::{holds, is_absent, number};
 use crate::moves::{after_move, answer_move, during_move, most_move, until_move, within_move};
-use crate::step::Step;
 use osl::{Matched, Row};
+use watch::Step;
 
 // How many states the row has.
 pub fn states(row: &Row) -> u32
@@ -35,7 +36,7 @@ pub fn shows(row: &Row, state: u32) -> bool
 }
 
 fn move_on(row: &Row, matched: &Matched, step: &Step, state: u32) -> u32
-    ensures { result ≡ moved row.now matched.now step.now.digits state }
+    ensures { result ≡ moved row.now matched.now (step_digits step.now) state }
 {
     let first = &matched.first;
     let second = &matched.second;
@@ -60,7 +61,7 @@ fn move_on(row: &Row, matched: &Matched, step: &Step, state: u32) -> u32
 // The next state in a step, the row speaking of the matched events. On every run the row is then broken at some step
 // exactly if its formula is false of the run at step 0.
 pub fn next(row: &Row, matched: &Matched, step: &Step, state: u32) -> u32
-    ensures next { result ≡ moved row.now matched.now step.now.digits state }
+    ensures next { result ≡ moved row.now matched.now (step_digits step.now) state }
     ensures means { (events : List Event) → Declared events → Lawful row.now → RowMeansItsFormula events row.now }
 {
     move_on(row, matched, step, state)

@@ -17,7 +17,7 @@ use Rattle.osl.specs.Terms.{row_formula}
 use Rattle.osl.specs.Traces.{trace, class_of}
 use Rattle.osl.proofs.Steps.{steps_are_sets}
 use Rattle.rows.specs.Moves.{path}
-use Rattle.rows.specs.Steps.{digits_of}
+use Rattle.watch.specs.Steps.{digits_of}
 use Rattle.rows.specs.Stepping.{moved, broken}
 use Rattle.rows.specs.Meaning.{Declared, Lawful, Tells}
 use Rattle.rows.proofs.Meaning.{row_means_its_formula}

@@ -10,7 +10,7 @@ use Rattle.osl.specs.declared.event.Event.{Event}
 use Rattle.osl.specs.declared.row.Row.{Row}
 use Rattle.osl.specs.declared.matched.Matched.{Matched}
 use Rattle.osl.specs.Resolving.{no_events}
-use Rattle.rows.specs.Steps.{digits_of}
+use Rattle.watch.specs.Steps.{digits_of}
 use Rattle.rows.specs.Stepping.{moved, broken}
 use Rattle.rows.proofs.Bounds.{moved_broken}
 use Rattle.limits.specs.Questions.{product}

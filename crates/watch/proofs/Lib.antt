@@ -1,4 +1,5 @@
 pub mod Bits
+pub mod Spelling
 pub mod Walking
 pub mod Uniqueness
 mod MarkTexts

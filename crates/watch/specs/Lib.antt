@@ -1,6 +1,8 @@
 pub mod Classical
 pub mod Exactly
 pub mod Letters
+pub mod Kinds
+pub mod Steps
 pub mod Marks
 pub mod Watchers
 pub mod Sizes

@@ -10,6 +10,9 @@ use std::alloc::{AllocError, Global};
 // The most marks that a watcher can have.
 pub const MOST_MARKS: u8 = 8;
 
+// How many sets of marks there are.
+pub const MARK_SETS: usize = 256;
+
 // A set of marks: mark i is bit i - 1.
 #[derive(Clone, Copy, PartialEq, Eq, Debug)]
 pub struct MarkSet {

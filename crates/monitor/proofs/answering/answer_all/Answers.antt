@@ -1,8 +1,8 @@
-use Rattle.std.proofs.Common.{◌≡◌, ℕ, ◌+◌, List, take, drop, sym, refl, ap, ◌∙◌, subst, subst₂, arith}
-use Rattle.std.proofs.lemmas.List.{take_more, take_more_set, drop-set-lt, drop-drop}
+use Rattle.std.proofs.Common.{◌≡◌, ℕ, ◌+◌, List, take, drop, sym, refl, ap, ◌∙◌, subst, subst₂, length, get_or, ◌<◌, arith}
+use Rattle.std.proofs.lemmas.List.{length-take-le, get_or-take, take_more, take_more_set, drop-set-lt, drop-drop}
 use Rattle.monitor.specs.Plain.{opened, Agrees}
 use Rattle.expression.specs.Expressions.{formula}
-use Rattle.monitor.specs.inner.Standing.{Represents}
+use Rattle.monitor.specs.inner.Standing.{Represents, Answers}
 use Rattle.monitor.specs.declared.calls.Call.{Call}
 use Rattle.monitor.specs.declared.calls.Answer.{Answer}
 use Rattle.monitor.proofs.Agreeing.{answered_more}
@@ -28,7 +28,16 @@ loop-place-preserved g c =
     let before : List Answer = c.args.answers.now in
     let answers : List Answer = c.loop-place.answers in
     let a : Answer = c.call.result in
-    (answered_more g.W.Watcher.watching c.open-monitor.result c.loop-place.monitor c.call.new.self calls i _ (take i answers) _ a c.loop-place.invariant.0 c.call.ensures.same c.call.ensures.answers (take_more calls i _ (omega (arith, c.min-count.ensures))) (take_more_set answers i a (omega (arith, c.min-count.ensures))), drop-set-lt (i + 1) answers i a (omega arith) ∙ (sym (drop-drop 1 i answers) ∙ (ap (drop 1) c.loop-place.invariant.1 ∙ drop-drop 1 i before)))
+    let m = c.loop-place.monitor in
+    let n : ℕ = c.min-count.result in
+    let size : length (take n calls) ≡ n = length-take-le n calls (omega (arith, c.min-count.ensures)) in
+    let lt : i < n = omega arith in
+    let there : get_or (take n calls) i _ ≡ get_or calls i _ = get_or-take n calls i _ lt in
+    let said = subst (λ (k : Call). Answers (g.W.Watcher.watching m.watcher) (formula m.expression) m k a c.call.new.self) there c.call.ensures.answers in (
+      answered_more g.W.Watcher.watching c.open-monitor.result m c.call.new.self calls i _ (take i answers) _ a c.loop-place.invariant.0 c.call.ensures.same said
+          (take_more calls i _ (omega (arith, c.min-count.ensures))) (take_more_set answers i a (omega (arith, c.min-count.ensures))),
+      drop-set-lt (i + 1) answers i a (omega arith) ∙ (sym (drop-drop 1 i answers) ∙ (ap (drop 1) c.loop-place.invariant.1 ∙ drop-drop 1 i before)),
+    )
 
 pub returns : goal.returns
 returns g c =
@@ -39,7 +48,7 @@ returns g c =
     let calls : List Call = c.args.calls.now in
     let before : List Answer = c.args.answers.now in
     let answers : List Answer = c.loop-place.answers in
-    let end : c.loop-place.place ≡ n = omega arith in
+    let end : c.loop-place.place ≡ n = omega (arith, c.min-count.ensures, length-take-le n calls (omega (arith, c.min-count.ensures))) in
     record {
       count = c.min-count.ensures;
       agrees = subst₂ (λ v e. Agrees (watch v) (formula e) opened (take n calls) (take n answers)) o.watcher o.expression (subst (λ (k : ℕ). Agrees (watch m.watcher) (formula m.expression) opened (take k calls) (take k answers)) end c.loop-place.invariant.0.agrees);

@@ -1,0 +1,14 @@
+-- The kinds of a note and their numbers. Assumes nothing.
+use Rattle.std.specs.Prelude.{◌≡◌, ◌≢◌, ℕ, Ok, Err, Result}
+use Rattle.watch.specs.declared.kind.Kind.{Kind}
+use Rattle.watch.specs.declared.kind.Kind.TheVariants.{Starting, Ongoing}
+use Rattle.watch.specs.declared.kind.UnknownKind.{UnknownKind}
+
+abbrev pub kind_number : Kind → ℕ
+kind_number Starting = 1
+kind_number Ongoing = 2
+
+-- The number is read as the kind that has it, and refused where none has it.
+abbrev pub Numbered : ℕ → Result Kind UnknownKind → Type 0
+Numbered n (Ok kind) = kind_number kind ≡ n
+Numbered n (Err unknown) = (kind : Kind) → kind_number kind ≢ n
