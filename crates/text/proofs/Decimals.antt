@@ -1,32 +1,33 @@
 -- A word has the form of a number just where it is how that number is written. Assumes nothing.
 use Rattle.std.proofs.Common.{◌≡◌, ℕ, ◌<◌, ◌≤◌, true, not, ◌&&◌, ◌||◌, eqb, leb, ◌⊎◌, List, length, get_or, decimal, sym, ap, ◌∙◌, inl, inr, arith, rules}
 use Rattle.std.specs.Char.{is_ascii_digit}
+use Rattle.std.specs.Str.Parse.{digits_value}
 use Rattle.std.proofs.lemmas.Bool.{and_parts, and_from, leb-true, le-leb, or_cases, or_left, or_right, eqb-true, eqb-false, ne_eqb, not-true, not_from_false, cases_eq}
-use Rattle.std.proofs.lemmas.Str.Parse.{IsNumeralModel, numerals_by_fold, digits_value_short}
+use Rattle.std.proofs.lemmas.Str.Parse.{IsNumeralModel, numerals_by_value, digits_value_short}
 use Rattle.std.proofs.lemmas.Fmt.{decimal-digits_value, digits_decimal, decimal_digit, decimal_nonempty, first_decimal, length-decimal-le}
 use Rattle.text.specs.Numbers.{number_limit}
-use Rattle.text.specs.Clean.{every}
-use Rattle.text.specs.inner.Digits.{number_form, read_on}
+use Rattle.std.specs.List.{list_all}
+use Rattle.text.specs.inner.Digits.{number_form}
 
-pub own : IsNumeralModel (λ ds. every is_ascii_digit ds ≡ true) (read_on 0)
-own = numerals_by_fold _ (search rules) read_on (search rules)
+pub own : IsNumeralModel (λ ds. list_all is_ascii_digit ds ≡ true) (digits_value 10)
+own = numerals_by_value _ (search rules)
 
 lead : (w : List ℕ) → (eqb (length w) 1 ≡ true) ⊎ (not (eqb (get_or w 0 0) 48) ≡ true) → get_or w 0 0 ≡ 48 → length w ≡ 1
 lead w (inl e) h = eqb-true (length w) 1 e
 lead w (inr e) h = absurd (eqb-false (get_or w 0 0) 48 (not-true (eqb (get_or w 0 0) 48) e) h)
 
-pub number_written : (w : List ℕ) → number_form w ≡ true → (read_on 0 w < number_limit) × (w ≡ decimal (read_on 0 w))
+pub number_written : (w : List ℕ) → number_form w ≡ true → (digits_value 10 w < number_limit) × (w ≡ decimal (digits_value 10 w))
 number_written w h =
-    let a = and_parts (leb 1 (length w) && leb (length w) 6 && every is_ascii_digit w) (eqb (length w) 1 || not (eqb (get_or w 0 0) 48)) h in
-    let b = and_parts (leb 1 (length w) && leb (length w) 6) (every is_ascii_digit w) a.0 in
+    let a = and_parts (leb 1 (length w) && leb (length w) 6 && list_all is_ascii_digit w) (eqb (length w) 1 || not (eqb (get_or w 0 0) 48)) h in
+    let b = and_parts (leb 1 (length w) && leb (length w) 6) (list_all is_ascii_digit w) a.0 in
     let d = and_parts (leb 1 (length w)) (leb (length w) 6) b.0 in
     let some : 0 < length w = omega (arith, leb-true 1 (length w) d.0) in
     let few : length w ≤ 6 = leb-true (length w) 6 d.1 in
-    let small : read_on 0 w < 1000000 = digits_value_short own w 6 b.1 few in
+    let small : digits_value 10 w < 1000000 = digits_value_short own w 6 b.1 few in
     (small, sym (decimal-digits_value own w b.1 some (lead w (or_cases (eqb (length w) 1) (not (eqb (get_or w 0 0) 48)) a.1)) (omega (arith, small))))
 
 -- The digits of a number, as a test.
-pub decimal_digits : (n : ℕ) → n < number_limit → every is_ascii_digit (decimal n) ≡ true
+pub decimal_digits : (n : ℕ) → n < number_limit → list_all is_ascii_digit (decimal n) ≡ true
 decimal_digits n h = digits_decimal own n (omega arith)
 
 leads : (n : ℕ) → n < number_limit → (n ≡ 0) ⊎ (n ≡ 0 → ⊥) → (eqb (length (decimal n)) 1 || not (eqb (get_or (decimal n) 0 0) 48)) ≡ true

@@ -1,6 +1,4 @@
 pub mod Cutting
 pub mod Joining
 pub mod Ending
-pub mod Loops
-mod Digits
 pub mod Decimals

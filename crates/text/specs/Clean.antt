@@ -1,5 +1,6 @@
 -- Clean lines. Assumes nothing.
 use Rattle.std.specs.Prelude.{ℕ, Bool, true, not, ◌&&◌, List, [], ◌∷◌, length, ◌==◌, nat_le}
+use Rattle.std.specs.List.{list_all}
 use Rattle.text.specs.Words.{words}
 
 abbrev pub every : {X : Type 0} → (X → Bool) → List X → Bool
@@ -12,8 +13,8 @@ visible b = nat_le 33 b && nat_le b 126
 
 -- Some bytes, all of them visible.
 abbrev pub clean_word : List ℕ → Bool
-clean_word w = not (length w == 0) && every visible w
+clean_word w = not (length w == 0) && list_all visible w
 
 -- Single spaces between words of visible bytes, on a line that is not empty.
 abbrev pub clean : List ℕ → Bool
-clean line = every clean_word (words line)
+clean line = list_all clean_word (words line)

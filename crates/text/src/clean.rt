@@ -1,24 +1,14 @@
 // Clean lines: words of visible bytes between single spaces.
 ghost use Rattle.std.specs.Prelude.{◌≡◌};
-ghost use Rattle.text.specs.Clean.{every, visible, clean_word, clean};
+ghost use Rattle.std.specs.List.{list_all};
+ghost use Rattle.text.specs.Clean.{visible, clean_word, clean};
 
 use crate::line::Words;
 
-fn is_visible(b: u8) -> bool
-    ensures { result ≡ visible b }
-{
-    b'!' <= b && b <= b'~'
-}
-
 fn all_visible(word: &[u8]) -> bool
-    ensures { result ≡ every visible word.now }
+    ensures { result ≡ list_all visible word.now }
 {
-    for b in word {
-        if !is_visible(*b) {
-            return false;
-        }
-    }
-    true
+    word.iter().all(u8::is_ascii_graphic)
 }
 
 fn is_clean_word(word: &[u8]) -> bool
@@ -31,12 +21,5 @@ fn is_clean_word(word: &[u8]) -> bool
 pub fn is_clean(line: &[u8]) -> bool
     ensures { result ≡ clean line.now }
 {
-    let mut rest = Words::of(line);
-    while let Some((word, tail)) = rest.first() {
-        if !is_clean_word(word) {
-            return false;
-        }
-        rest = tail;
-    }
-    true
+    Words::of(line).all(is_clean_word)
 }

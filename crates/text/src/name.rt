@@ -2,7 +2,7 @@
 ghost use Rattle.std.specs.Prelude.{◌≡◌, true, string_bytes};
 ghost use Rattle.text.specs.NameForms.{name_form};
 
-#[derive(Drop)]
+#[derive(PartialEq, Eq, Drop)]
 pub struct Name {
     pub(crate) text: String,
     ghost form: { name_form (string_bytes text) ≡ true },

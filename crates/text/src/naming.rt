@@ -1,30 +1,24 @@
 // Making a name of a text, and comparing names.
 ghost use Rattle.std.specs.Prelude.{◌≡◌, true, false, string_bytes, MatchOption};
 ghost use Rattle.std.specs.Str.{bytes_eq};
-ghost use Rattle.text.specs.Clean.{every};
+ghost use Rattle.std.specs.List.{list_all};
 ghost use Rattle.text.specs.NameForms.{name_byte, name_form};
 ghost use Rattle.text.specs.Names.{name_bytes};
 
-use crate::bytes::is_same;
 use crate::name::Name;
 
 const MOST_LETTERS: usize = 16;
 
-fn is_name_byte(b: u8) -> bool
-    ensures { result ≡ name_byte b }
+fn is_name_byte(b: &u8) -> bool
+    ensures { result ≡ name_byte b.now }
 {
-    (b'a' <= b && b <= b'z') || (b'0' <= b && b <= b'9')
+    matches!(b, b'a'..=b'z' | b'0'..=b'9')
 }
 
 fn all_name_bytes(bytes: &[u8]) -> bool
-    ensures { result ≡ every name_byte bytes.now }
+    ensures { result ≡ list_all name_byte bytes.now }
 {
-    for b in bytes {
-        if !is_name_byte(*b) {
-            return false;
-        }
-    }
-    true
+    bytes.iter().all(is_name_byte)
 }
 
 fn is_name(bytes: &[u8]) -> bool
@@ -54,6 +48,6 @@ impl Name {
     pub fn is(&self, other: &Name) -> bool
         ensures { result ≡ bytes_eq (name_bytes self.now) (name_bytes other.now) }
     {
-        is_same(self.text.as_bytes(), other.text.as_bytes())
+        self == other
     }
 }
