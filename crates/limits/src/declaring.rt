@@ -11,7 +11,7 @@ use text::Name;
 fn is_named(events: &[Event], name: &Name) -> bool
     ensures { result ≡ named events.now (name_bytes name.now) }
 {
-    events.iter().any(|event| name.is(&event.name))
+    events.iter().any(|event| *name == event.name)
 }
 
 fn is_carried(events: &[Event], name: &Name, pair: Pair) -> bool
@@ -19,7 +19,7 @@ fn is_carried(events: &[Event], name: &Name, pair: Pair) -> bool
 {
     events
         .iter()
-        .any(|event| name.is(&event.name) && event.carries(pair))
+        .any(|event| *name == event.name && event.carries(pair))
 }
 
 fn is_carried_anywhere(events: &[Event], pair: Pair) -> bool

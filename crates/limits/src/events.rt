@@ -9,14 +9,14 @@ use text::are_apart;
 fn do_clash(a: &Event, b: &Event) -> bool
     ensures { result ≡ events_clash a.now b.now }
 {
-    a.is(b) || (a.name.is(&b.name) && a.class != b.class)
+    a.is(b) || (a.name == b.name && a.class != b.class)
 }
 
 // Whether the event names no parameter twice.
 fn are_params_named_once(event: &Event) -> bool
     ensures { result ≡ params_once event.now }
 {
-    are_apart(&event.params, |a, b| a.name.is(&b.name))
+    are_apart(&event.params, |a, b| a.name == b.name)
 }
 
 // Whether no two events clash, and none names a parameter twice.

@@ -49,7 +49,7 @@ pub(crate) fn is_row_in_range(row: &Row) -> bool
 fn is_fixed(name: &Name, params: &[Param]) -> bool
     ensures { result ≡ list_any (called (name_bytes name.now)) params.now }
 {
-    params.iter().any(|param| name.is(&param.name))
+    params.iter().any(|param| *name == param.name)
 }
 
 // Whether the row's other parameters leave the one free whose values are permitted.

@@ -12,7 +12,7 @@ use watch::MOST_EVENTS;
 // How many events a sheet has room for.
 pub const PLACES: usize = MOST_EVENTS as usize;
 
-// A set of declared events: event i is in it where flag i is set.
+// A set of declared events: event i is in it where flag i is set. An array, since making a monitor and stepping it never allocate.
 #[derive(Clone, Copy)]
 pub struct EventSet {
     pub flags: [bool; PLACES],

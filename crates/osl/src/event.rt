@@ -9,7 +9,7 @@ pub struct Param {
 }
 
 // The name of a parameter and a value, wherever these two stand.
-#[derive(Clone, Copy)]
+#[derive(Clone, Copy, PartialEq, Eq)]
 pub struct Pair<'a> {
     pub name: &'a Name,
     pub value: &'a Name,

@@ -1,7 +1,7 @@
 // Comparing names and parameters: which events a pattern matches.
 ghost use Rattle.std.specs.Prelude.{◌≡◌};
 ghost use Rattle.text.specs.Names.{name_bytes};
-ghost use Rattle.osl.specs.Osl.{has, same_pair, within_params};
+ghost use Rattle.osl.specs.Osl.{has, within_params};
 ghost use Rattle.osl.specs.Terms.{as_pair, pair_words, pairs, words};
 ghost use Rattle.osl.specs.Matching.{listed, matches as matching, carries, same_event?, stray_pair, strays as has_stray};
 
@@ -12,7 +12,7 @@ use text::Name;
 pub(crate) fn is_among(name: &Name, names: &[Name]) -> bool
     ensures { result ≡ listed (words names.now) (name_bytes name.now) }
 {
-    names.iter().any(|other| name.is(other))
+    names.contains(name)
 }
 
 impl Param {
@@ -25,18 +25,11 @@ impl Param {
         }
     }
 
-    // Whether this is the parameter of that name, with that value.
-    fn is(&self, pair: Pair) -> bool
-        ensures { result ≡ same_pair (pair_words pair.entry) (as_pair self.now) }
-    {
-        pair.name.is(&self.name) && pair.value.is(&self.value)
-    }
-
     // Whether this is the parameter of that name, with a value that is not among these.
     fn strays(&self, name: &Name, values: &[Name]) -> bool
         ensures { result ≡ stray_pair (name_bytes name.now) (words values.now) (as_pair self.now) }
     {
-        name.is(&self.name) && !is_among(&self.value, values)
+        *name == self.name && !is_among(&self.value, values)
     }
 }
 
@@ -44,7 +37,7 @@ impl Param {
 fn has_pair(params: &[Param], pair: Pair) -> bool
     ensures { result ≡ has (pairs params.now) (pair_words pair.entry) }
 {
-    params.iter().any(|param| param.is(pair))
+    params.iter().any(|param| pair == param.pair())
 }
 
 // Whether the parameters have all of these.
@@ -65,7 +58,7 @@ impl Pattern {
     pub fn matches(&self, event: &Event) -> bool
         ensures { result ≡ matching self.now event.now }
     {
-        self.name.is(&event.name) && has_all(&event.params, &self.params)
+        self.name == event.name && has_all(&event.params, &self.params)
     }
 }
 
@@ -81,7 +74,7 @@ impl Event {
     pub fn is(&self, other: &Event) -> bool
         ensures { result ≡ same_event? self.now other.now }
     {
-        self.name.is(&other.name)
+        self.name == other.name
             && (has_all(&self.params, &other.params) && has_all(&other.params, &self.params))
     }
 }

@@ -27,7 +27,7 @@ impl PermittedValues {
     pub fn forbids(&self, event: &Event) -> bool
         ensures { result ≡ values_forbid self.now event.now }
     {
-        self.event.is(&event.name)
+        self.event == event.name
             && (has_all(&event.params, &self.having)
                 && has_stray(&event.params, &self.param, &self.values))
     }

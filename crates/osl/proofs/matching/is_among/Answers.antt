@@ -1,9 +1,10 @@
-use Rattle.std.proofs.Common.{rules, tests}
-use Rattle.std.proofs.lemmas.Iterator.{YieldsList-from_slice}
-use Rattle.std.proofs.lemmas.Iterator.Search.{any_from_yields_List}
-use Rattle.osl.proofs.Mapped.{list_any-map}
+use Rattle.std.proofs.Common.{◌∙◌}
+use Rattle.std.specs.Str.{bytes_eq}
+use Rattle.text.specs.Names.{name_bytes}
+use Rattle.osl.proofs.Mapped.{any_mapped, bytes_eq-comm}
 use Rattle.osl.proofs.matching.is_among.Goals as goal
 
 pub returns : goal.returns
 returns c =
-    rw list_any-map (any_from_yields_List _ _ _ _ c.any.ensures.ran (YieldsList-from_slice c.args.names.now cc) (λ x b q k. search (rules, tests)))
+    let name = name_bytes c.args.name.now in
+    c.contains.ensures.value ∙ any_mapped (bytes_eq name) name_bytes _ (λ other. bytes_eq-comm (name_bytes other) name) c.args.names.now
