@@ -1,7 +1,7 @@
 pub mod Parsing
-pub mod Operands
 pub mod Spelling
 pub mod Drafting
 pub mod Wholes
 pub mod Truths
+pub mod Arrays
 pub mod Showing

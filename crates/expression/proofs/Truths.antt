@@ -1,30 +1,12 @@
 -- Values and truth. Assumes nothing.
-use Rattle.std.proofs.Common.{◌≡◌, ℕ, ◌+◌, ◌<◌, Bool, ◌||◌, ◌⊎◌, List, ◌∷◌, length, get_or, drop, Decides, sym, ap, ◌∙◌, ap₂, inl, inr, ⊎_elim}
+use Rattle.std.proofs.Common.{ℕ, Bool, ◌||◌, ◌⊎◌, Decides, inl, inr, ⊎_elim}
 use mathlib.Core.Bool as bool
-use Rattle.std.proofs.lemmas.List.{drop_more}
 use Rattle.std.proofs.lemmas.Bool.{cases_Bool}
 use Rattle.std.proofs.lemmas.Bool.Decides.{Decides-not, Decides-and, Decides-or, Decides-like, not_from_Decides}
 use Rattle.watch.specs.Marks.{Has, has}
 use Rattle.watch.proofs.Bits.{has_true, has_from}
 use Rattle.expression.specs.Formulas.{Formula, term, not, and, or, implies, Either, TrueOf}
 use Rattle.expression.specs.Values.{eval}
-use Rattle.expression.specs.inner.Parsing.{first, others, before, parsed}
-use Rattle.expression.specs.declared.token.Token.{Token}
-
--- The words from a place on are the word there before the rest.
-pub read_at : (xs : List Token) (i : ℕ) (d t : Token) → i < length xs → get_or xs i d ≡ t → parsed (drop i xs) ≡ before t (parsed (drop (i + 1) xs))
-read_at xs i d t lt e = ap parsed (drop_more xs i d lt) ∙ ap (λ (u : Token). before u (parsed (drop (i + 1) xs))) e
-
--- What is read at a place: the value there, and the formulas after it.
-abbrev pub Reads : List Token → ℕ → ℕ → Bool → ℕ → Type 0
-Reads xs set i a end = (a ≡ eval (first (parsed (drop i xs))) set) × (parsed (drop end xs) ≡ others (parsed (drop i xs)))
-
--- An operator with two operands.
-pub read_two : (xs : List Token) (set : ℕ) (make : Formula → Formula → Formula) (op : Bool → Bool → Bool) → ((f g : Formula) → op (eval f set) (eval g set) ≡ eval (make f g) set) → (i middle end : ℕ) (a b : Bool) → parsed (drop i xs) ≡ make (first (parsed (drop (i + 1) xs))) (first (others (parsed (drop (i + 1) xs)))) ∷ others (others (parsed (drop (i + 1) xs))) → Reads xs set (i + 1) a middle → Reads xs set middle b end → Reads xs set i (op a b) end
-read_two xs set make op same i middle end a b e x y =
-    let fs : List Formula = parsed (drop (i + 1) xs) in
-    let second : b ≡ eval (first (others fs)) set = y.0 ∙ ap (λ (gs : List Formula). eval (first gs) set) x.1 in
-    ((ap₂ op x.0 second ∙ same (first fs) (first (others fs))) ∙ ap (λ (gs : List Formula). eval (first gs) set) (sym e), (y.1 ∙ ap others x.1) ∙ ap others (sym e))
 
 -- Facts that a test decides: the classical "or" and "implies" of two such facts are the constructive ones.
 either_from : (P Q : Type 0) → P ⊎ Q → Either P Q

@@ -1,5 +1,5 @@
 -- The formula of an expression, and which texts are read and refused. Assumes nothing.
-use Rattle.std.specs.Prelude.{◌≡◌, ℕ, true, false, List, take}
+use Rattle.std.specs.Prelude.{◌≡◌, ℕ, true, false, List}
 use Rattle.text.specs.Lines.{unended, Ends}
 use Rattle.text.specs.Clean.{clean}
 use Rattle.expression.specs.Formulas.{Formula}
@@ -11,7 +11,7 @@ use Rattle.expression.specs.declared.fault.Fault.TheVariants.{Bytes, Form}
 
 -- What the words of the expression say. They are the words of this formula and of no other.
 abbrev pub formula : Expression → Formula
-formula e = first (parsed (take e.len e.words))
+formula e = first (parsed e.words)
 
 -- The text is read as the expression: it is the writing of its formula, or that and a line feed.
 abbrev pub Accepted : Expression → List ℕ → Type 0

@@ -1,7 +1,7 @@
 -- How a formula is written: its words in prefix order, with single spaces between them. Assumes nothing.
 use Rattle.std.specs.Prelude.{◌≡◌, ℕ, ◌≤◌, Bool, true, List, [], ◌∷◌, ◌++◌, map, length, codes, decimal, nat_lt}
+use Rattle.std.specs.List.{list_all}
 use Rattle.text.specs.Words.{joined}
-use Rattle.text.specs.Clean.{every}
 use Rattle.text.specs.Numbers.{number_limit}
 use Rattle.expression.specs.Formulas.{Formula, term, not, and, or, implies}
 use Rattle.expression.specs.declared.token.Token.{Token}
@@ -40,4 +40,4 @@ most_words = 15
 
 -- The formulas that are read: at most 15 words, with numbers below the limit.
 abbrev pub Fits : Formula → Type 0
-Fits f = (length (written f) ≤ most_words) × (every in_range (written f) ≡ true)
+Fits f = (length (written f) ≤ most_words) × (list_all in_range (written f) ≡ true)

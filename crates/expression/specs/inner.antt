@@ -1,3 +1,4 @@
 pub mod Parsing
+pub mod Padding
 pub mod Formed
 pub mod Drafts

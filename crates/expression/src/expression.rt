@@ -4,17 +4,10 @@
 ghost use Rattle.std.specs.Prelude.{◌≡◌, true};
 ghost use Rattle.expression.specs.inner.Formed.{formed};
 
-use crate::token::Token;
+use crate::tokens::Tokens;
 
-pub(crate) const MOST_WORDS: usize = 15;
-
-// What stands behind the last word, so that equal expressions are equal values.
-pub(crate) const BLANK: Token = Token::Term(0);
-
-// The first `len` words are one whole expression.
 #[derive(Clone, Copy)]
 pub struct Expression {
-    pub(crate) words: [Token; MOST_WORDS],
-    pub(crate) len: usize,
-    ghost ok: { formed words len ≡ true },
+    pub(crate) words: Tokens,
+    ghost ok: { formed words ≡ true },
 }

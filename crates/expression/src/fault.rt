@@ -1,22 +1,33 @@
-// Why a text is refused, and under which number.
-ghost use Rattle.std.specs.Prelude.{◌≡◌};
-ghost use Rattle.expression.specs.Faults.{fault_number};
+// Why a text is refused, under which number, and how that is said.
+ghost use Rattle.std.specs.Prelude.{◌≡◌, Some};
+ghost use Rattle.expression.specs.Faults.{fault_number, fault_text};
+
+use std::fmt;
 
 #[derive(Clone, Copy, PartialEq, Eq, Debug)]
 pub enum Fault {
     // The line is not made of visible words between single spaces.
-    Bytes,
+    Bytes = 11,
     // Its words are not one whole expression of at most 15 words.
-    Form,
+    Form = 18,
 }
 
 impl Fault {
     pub fn number(self) -> u8
         ensures { result ≡ fault_number self }
     {
+        self as u8
+    }
+}
+
+// What is wrong with the text, without its number.
+impl fmt::Display for Fault {
+    ghost output = { λ fault. Some (fault_text fault) };
+
+    fn fmt<W: fmt::Write>(&self, f: &mut fmt::Formatter<W>) -> fmt::Result {
         match self {
-            Fault::Bytes => 11,
-            Fault::Form => 18,
+            Fault::Bytes => f.write_str("it is not words between single spaces"),
+            Fault::Form => f.write_str("it is not one whole expression of at most 15 words"),
         }
     }
 }

@@ -8,6 +8,7 @@ mod show;
 #[cfg(test)]
 mod tests;
 mod token;
+mod tokens;
 mod value;
 
 pub use expression::Expression;

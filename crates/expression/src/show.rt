@@ -15,7 +15,7 @@ impl Expression {
         ensures words { result.now ≡ written (formula self.now) }
         ensures fits { Fits (formula self.now) }
     {
-        &self.words[0..self.len]
+        self.words.as_slice()
     }
 }
 
@@ -37,11 +37,12 @@ impl fmt::Display for Token {
 fn show<W: fmt::Write>(words: &[Token], f: &mut fmt::Formatter<W>) -> fmt::Result
     ensures { WritesOnOk W.write_str_gives f.old result (joined (map spelled words.now)) f.new }
 {
-    for (i, word) in words.iter().enumerate() {
-        if i != 0 {
-            f.write_str(" ")?;
-        }
-        write!(f, "{word}")?;
+    let Some((first, others)) = words.split_first() else {
+        return Ok(());
+    };
+    write!(f, "{first}")?;
+    for word in others {
+        write!(f, " {word}")?;
     }
     Ok(())
 }

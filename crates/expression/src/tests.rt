@@ -1,34 +1,31 @@
 // Texts that are read and texts that are refused, values, and an expression that is written.
 use crate::expression::Expression;
+use crate::fault::Fault;
 use std::test::Fail;
 use watch::MarkSet;
 
-// The number of the refusal, or 0 where the text is read.
-fn refusal(text: &[u8]) -> u8 {
-    let mut expression = Expression::blank();
-    match expression.read(text) {
-        Ok(()) => 0,
-        Err(fault) => fault.number(),
-    }
+// The number under which the text is refused, if it is.
+fn refusal(text: &[u8]) -> Option<u8> {
+    Expression::blank().read(text).err().map(Fault::number)
 }
 
 #[test]
 fn texts_are_read_or_refused(rt: HostRuntime) {
-    let table: [(&[u8], u8); 14] = [
-        (b"implies 0 not 7", 0),
-        (b"implies 0 not 7\n", 0),
-        (b"and and and and and and and 1 2 3 4 5 6 7 999999", 0),
-        (b"and 1", 18),
-        (b"01", 18),
-        (b"1000000", 18),
-        (b"1 1", 18),
-        (b"not and and and and and and and 1 2 3 4 5 6 7 8", 18),
-        (b"1  1", 11),
-        (b"not\t1", 11),
-        (b"1 ", 11),
-        (b"1\n\n", 11),
-        (b"", 11),
-        (b"\n", 11),
+    let table: [(&[u8], Option<u8>); 14] = [
+        (b"implies 0 not 7", None),
+        (b"implies 0 not 7\n", None),
+        (b"and and and and and and and 1 2 3 4 5 6 7 999999", None),
+        (b"and 1", Some(18)),
+        (b"01", Some(18)),
+        (b"1000000", Some(18)),
+        (b"1 1", Some(18)),
+        (b"not and and and and and and and 1 2 3 4 5 6 7 8", Some(18)),
+        (b"1  1", Some(11)),
+        (b"not\t1", Some(11)),
+        (b"1 ", Some(11)),
+        (b"1\n\n", Some(11)),
+        (b"", Some(11)),
+        (b"\n", Some(11)),
     ];
     for (text, number) in table {
         assert!(rt; refusal(text) == number);

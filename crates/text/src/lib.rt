@@ -10,7 +10,7 @@ mod naming;
 mod numbers;
 
 pub use apart::are_apart;
-pub use bytes::{is_same, unended};
+pub use bytes::unended;
 pub use clean::is_clean;
 pub use line::Words;
 pub use name::Name;

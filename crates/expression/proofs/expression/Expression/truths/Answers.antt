@@ -1,13 +1,10 @@
-use Rattle.std.proofs.Common.{ℕ, ◌<◌, false, ◌≢◌, length, ◌∙◌, arith, below_more}
-use Rattle.std.proofs.lemmas.List.{length-set, get_or-set_same, get_or-set_other}
+use Rattle.std.proofs.Common.{false, arith, rules}
+use borrow.Author.Tests.{tests}
+use Rattle.expression.specs.Expressions.{formula}
+use Rattle.expression.specs.Values.{eval}
+use Rattle.expression.proofs.Arrays.{made_by}
 use Rattle.expression.proofs.expression.Expression.truths.Goals as goal
 
-pub loop-set-preserved : goal.loop-set-preserved
-loop-set-preserved c =
-    let table = c.loop-set.table in
-    let set : ℕ = c.loop-set.set in
-    let within : set < length table = omega arith in (
-      length-set table set c.value.result ∙ c.loop-set.invariant.0,
-      below_more _ _ (λ k h. let other : k ≢ set = omega arith in get_or-set_other table set k c.value.result false other ∙ c.loop-set.invariant.1 k h)
-          (get_or-set_same table set c.value.result false within ∙ c.value.ensures.value),
-    )
+pub returns-clause-values : goal.returns-clause-values
+returns-clause-values c s low =
+    made_by _ _ (eval (formula c.args.self.now)) c.from_fn.result 256 0 (λ k l y q called. search (rules, tests)) c.from_fn.ensures.items.each s false (omega arith) low

@@ -1,4 +1,4 @@
-use Rattle.std.proofs.Common.{◌≡◌, ℕ, List, ap, ◌∙◌}
+use Rattle.std.proofs.Common.{List, ap, ◌∙◌}
 use Rattle.std.proofs.lemmas.Bool.Decides.{Decides-at}
 use Rattle.expression.specs.Formulas.{Formula}
 use Rattle.expression.specs.Expressions.{formula}
@@ -9,9 +9,11 @@ use Rattle.expression.proofs.Parsing.{first_written}
 use Rattle.expression.proofs.Truths.{decides_truth}
 use Rattle.expression.proofs.expression.Expression.value.Goals as goal
 
-pub returns : goal.returns
-returns c =
+pub returns-clause-value : goal.returns-clause-value
+returns-clause-value c =
     let f = formula c.args.self.now in
-    let set : ℕ = c.args.shown.bits in
-    let same : c.value_at-result.result.0 ≡ eval f set = c.value_at-result.ensures.value ∙ ap (λ (g : Formula). eval g set) (ap (λ (ts : List Token). first (parsed ts)) c.tokens.ensures.words ∙ first_written f) in
-    record { value = same; truth = Decides-at _ _ same (decides_truth set f) }
+    let read = ap (λ (ts : List Token). first (parsed ts)) (c.iter.ensures.rest ∙ c.tokens.ensures.words) ∙ first_written f in
+    c.value_of.ensures.value ∙ ap (λ (g : Formula). eval g c.args.shown.bits) read
+
+pub returns-clause-truth : goal.returns-clause-truth
+returns-clause-truth c = Decides-at _ _ (returns-clause-value c) (decides_truth c.args.shown.bits (formula c.args.self.now))
