@@ -1,9 +1,8 @@
 // Sets of declared events.
-ghost use Rattle.std.specs.Prelude.{◌≡◌, Bool, false, slice_get};
+ghost use Rattle.std.specs.Prelude.{◌≡◌, false, slice_get};
 ghost use Rattle.std.specs.Option.{option_map_or};
 ghost use Rattle.osl.specs.Resolving.{set_of, no_events};
 ghost use Rattle.osl.specs.inner.Closures.{Answers};
-ghost use Rattle.osl.specs.declared.event.Event.{Event as Declared};
 
 use crate::event::Event;
 use std::array;
@@ -21,7 +20,7 @@ pub struct EventSet {
 // Whether there is an event at the place, and the closure chooses it.
 fn is_chosen<F: Fn(&Event) -> bool>(events: &[Event], place: usize, chooses: &F) -> bool
     requires { F.IsAlwaysCallable chooses.now }
-    ensures { (test : Declared → Bool) → Answers (F.post chooses.now) test → result ≡ option_map_or test (slice_get events.now place) false }
+    ensures { (test : _) → Answers (F.post chooses.now) test → result ≡ option_map_or test (slice_get events.now place) false }
 {
     events.get(place).is_some_and(|event| chooses(event))
 }
@@ -34,7 +33,7 @@ impl EventSet {
     // The events that the closure chooses, of those that have a place.
     pub(crate) fn of<F: Fn(&Event) -> bool>(events: &[Event], chooses: F) -> EventSet
         requires { F.IsAlwaysCallable chooses }
-        ensures { (test : Declared → Bool) → Answers (F.post chooses) test → result ≡ set_of test events.now }
+        ensures { (test : _) → Answers (F.post chooses) test → result ≡ set_of test events.now }
     {
         EventSet {
             flags: array::from_fn(|place| is_chosen(events, place, &chooses)),

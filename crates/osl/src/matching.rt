@@ -75,6 +75,7 @@ impl Event {
         ensures { result ≡ same_event? self.now other.now }
     {
         self.name == other.name
-            && (has_all(&self.params, &other.params) && has_all(&other.params, &self.params))
+            && has_all(&self.params, &other.params)
+            && has_all(&other.params, &self.params)
     }
 }

@@ -1,25 +1,18 @@
 // Which events a permit forbids.
 ghost use Rattle.std.specs.Prelude.{◌≡◌};
-ghost use Rattle.osl.specs.Matching.{names_forbid, values_forbid, is_use};
+ghost use Rattle.osl.specs.Matching.{names_forbid, values_forbid};
 
 use crate::event::{Class, Event};
 use crate::matching::{has_all, has_stray, is_among};
 use crate::row::{PermittedNames, PermittedValues};
 
-impl Class {
-    fn is_use(self) -> bool
-        ensures { result ≡ is_use self }
-    {
-        matches!(self, Class::Use)
-    }
-}
-
 impl PermittedNames {
     pub fn forbids(&self, event: &Event) -> bool
         ensures { result ≡ names_forbid self.now event.now }
     {
-        event.class.is_use()
-            && (!is_among(&event.name, &self.names) && has_all(&event.params, &self.having))
+        event.class == Class::Use
+            && !is_among(&event.name, &self.names)
+            && has_all(&event.params, &self.having)
     }
 }
 
@@ -28,7 +21,7 @@ impl PermittedValues {
         ensures { result ≡ values_forbid self.now event.now }
     {
         self.event == event.name
-            && (has_all(&event.params, &self.having)
-                && has_stray(&event.params, &self.param, &self.values))
+            && has_all(&event.params, &self.having)
+            && has_stray(&event.params, &self.param, &self.values)
     }
 }
