@@ -3,8 +3,7 @@ use Rattle.std.proofs.lemmas.Grind.{common_steps}
 use Rattle.std.proofs.lemmas.Iterator.{YieldsList-from_slice}
 use Rattle.std.proofs.lemmas.Iterator.Search.{all_from_yields_List}
 use Rattle.std.specs.List.{list_all}
-use Rattle.limits.specs.Declaring.{row_declared}
-use Rattle.limits.specs.Forms.{event_formed, row_formed, row_in_range, row_free}
+use Rattle.limits.specs.Forms.{event_formed, row_formed}
 use Rattle.limits.specs.Questions.{term_within}
 use Rattle.limits.proofs.refusal.Refusal.says.Goals as goal
 
@@ -17,22 +16,13 @@ returns-then-all c =
     grind (arith, common_steps)
 
 pub returns-in-Range : goal.returns-in-Range
-returns-in-Range c =
-    let ranges : c.all-in-Range.result ≡ list_all row_in_range c.args.rows.now =
-    all_from_yields_List _ _ _ c.all-in-Range.result c.all-in-Range.ensures.ran (YieldsList-from_slice c.args.rows.now cc) (λ x b q k. search (rules, tests)) in
-    search rules
+returns-in-Range c = rw c.in-Range.is (all_from_yields_List _ _ _ _ c.all-in-Range.ensures.ran (YieldsList-from_slice c.args.rows.now cc) (λ x b q k. search (rules, tests)))
 
 pub returns-in-Undeclared : goal.returns-in-Undeclared
-returns-in-Undeclared c =
-    let declared : c.all-in-Undeclared.result ≡ list_all (row_declared c.args.events.now) c.args.rows.now =
-    all_from_yields_List _ _ _ c.all-in-Undeclared.result c.all-in-Undeclared.ensures.ran (YieldsList-from_slice c.args.rows.now cc) (λ x b q k. search (rules, tests)) in
-    search rules
+returns-in-Undeclared c = rw c.in-Undeclared.is (all_from_yields_List _ _ _ _ c.all-in-Undeclared.ensures.ran (YieldsList-from_slice c.args.rows.now cc) (λ x b q k. search (rules, tests)))
 
 pub returns-in-Fixed : goal.returns-in-Fixed
-returns-in-Fixed c =
-    let free : c.all-in-Fixed.result ≡ list_all row_free c.args.rows.now =
-    all_from_yields_List _ _ _ c.all-in-Fixed.result c.all-in-Fixed.ensures.ran (YieldsList-from_slice c.args.rows.now cc) (λ x b q k. search (rules, tests)) in
-    search rules
+returns-in-Fixed c = rw c.in-Fixed.is (all_from_yields_List _ _ _ _ c.all-in-Fixed.ensures.ran (YieldsList-from_slice c.args.rows.now cc) (λ x b q k. search (rules, tests)))
 
 pub returns-in-Terms : goal.returns-in-Terms
 returns-in-Terms c =
