@@ -1,13 +1,12 @@
 -- Where no question says no, each says yes. Assumes nothing.
-use Rattle.std.proofs.Common.{◌≡◌, ℕ, Bool, true, false, cond, ◌&&◌, List, [], ◌∷◌, Some, None, refl, arith}
+use Rattle.std.proofs.Common.{◌≡◌, Bool, true, false, not, cond, ◌&&◌, List, [], ◌∷◌, Some, None, refl}
+use Rattle.std.specs.List.{list_all, find}
 use Rattle.std.proofs.lemmas.Bool.{and_parts}
 use Rattle.osl.specs.declared.event.Event.{Event}
 use Rattle.osl.specs.declared.row.Row.{Row}
 use Rattle.expression.specs.Formulas.{Formula}
-use Rattle.limits.specs.declared.refusal.Refusal.{Refusal}
 use Rattle.limits.specs.declared.refusal.Refusal.TheVariants.{Counts, Form, Range, Events, Undeclared, Fixed, Terms, States}
-use Rattle.text.specs.Clean.{every}
-use Rattle.limits.specs.Questions.{says, asked, all_yes, first_no, judged}
+use Rattle.limits.specs.Questions.{says, asked, all_yes, judged}
 
 pub record Passes (events : List Event) (rows : List Row) (keep : Formula) : Type 0 where
   pub counts : says Counts events rows keep ≡ true
@@ -40,17 +39,15 @@ passes events rows keep e =
       states = i.0;
     }
 
-none_refuse : (qs : List Refusal) (events : List Event) (rows : List Row) (keep : Formula) →
-    first_no qs events rows keep ≡ None → every (λ q. says q events rows keep) qs ≡ true
-none_refuse [] events rows keep e = refl
-none_refuse (q ∷ qs) events rows keep e = go (says q events rows keep) e (λ rest. none_refuse qs events rows keep rest)
+none_found : {X : Type 0} (p : X → Bool) (xs : List X) → find (λ x. not (p x)) xs ≡ None → list_all p xs ≡ true
+none_found p [] e = refl
+none_found p (x ∷ xs) e = go (p x) e (λ rest. none_found p xs rest)
   where
-    go : (b : Bool) → cond b (first_no qs events rows keep) (Some q) ≡ None →
-        (first_no qs events rows keep ≡ None → every (λ r. says r events rows keep) qs ≡ true) →
-        (b && every (λ r. says r events rows keep) qs) ≡ true
-    go true n more = more n
-    go false n more = absurd (let z : ◌≡◌ {A = ℕ} 0 1 = cc in let no : ⊥ = omega arith in no)
+    go : (b : Bool) → cond (not b) (Some x) (find (λ y. not (p y)) xs) ≡ None →
+        (find (λ y. not (p y)) xs ≡ None → list_all p xs ≡ true) → (b && list_all p xs) ≡ true
+    go true e more = more e
+    go false e more = cc
 
 -- a sheet that is not refused answers every question with yes
 pub all_said_yes : (events : List Event) (rows : List Row) (keep : Formula) → judged events rows keep ≡ None → all_yes events rows keep ≡ true
-all_said_yes events rows keep e = none_refuse asked events rows keep e
+all_said_yes events rows keep e = none_found (λ q. says q events rows keep) asked e

@@ -1,15 +1,13 @@
 -- What a row names has to be declared. Assumes nothing.
 use Rattle.std.specs.Prelude.{Bool, true, ◌&&◌, List, vec_items}
+use Rattle.std.specs.List.{list_all, list_any}
+use Rattle.std.specs.Option.{option_map_or}
 use Rattle.std.specs.Str.{bytes_eq}
-use Rattle.text.specs.Clean.{every}
-use Rattle.text.specs.Lists.{some}
 use Rattle.text.specs.Names.{name_bytes}
 use Rattle.osl.specs.declared.event.Event.{Event}
 use Rattle.osl.specs.declared.event.Pattern.{Pattern}
 use Rattle.osl.specs.declared.row.Test.{Test}
-use Rattle.osl.specs.declared.row.Test.TheVariants.{True, False, First, Any, NoFirst, NoAny}
 use Rattle.osl.specs.declared.row.Count.{Count}
-use Rattle.osl.specs.declared.row.Count.TheVariants.{First as First', Any as Any'}
 use Rattle.osl.specs.declared.row.PermittedNames.{PermittedNames}
 use Rattle.osl.specs.declared.row.PermittedValues.{PermittedValues}
 use Rattle.osl.specs.declared.row.Row.{Row}
@@ -17,6 +15,7 @@ use Rattle.osl.specs.declared.row.Row.TheVariants.{Until, Always, After, Within,
 use Rattle.osl.specs.Osl.{Word}
 use Rattle.osl.specs.Terms.{as_pair}
 use Rattle.osl.specs.Matching.{carries}
+use Rattle.osl.specs.Resolving.{test_pattern, count_pattern}
 
 -- an event of this name
 abbrev pub is_called : Word → Event → Bool
@@ -24,44 +23,38 @@ is_called w e = bytes_eq w (name_bytes e.name)
 
 -- An event of this name is declared.
 abbrev pub named : List Event → Word → Bool
-named events w = some (is_called w) events
+named events w = list_any (is_called w) events
 
 -- An event of this name carries the parameter with the value.
 abbrev pub carried : List Event → Word → Word × Word → Bool
-carried events w pv = some (λ e. is_called w e && carries e pv) events
+carried events w pv = list_any (λ e. is_called w e && carries e pv) events
 
 -- An event of any name does.
 abbrev pub carried_anywhere : List Event → Word × Word → Bool
-carried_anywhere events pv = some (λ e. carries e pv) events
+carried_anywhere events pv = list_any (λ e. carries e pv) events
 
 -- The name of a pattern is declared, and each of its parameters is carried, with its value, by an event of that name.
 abbrev pub pattern_declared : List Event → Pattern → Bool
 pattern_declared events p =
-    named events (name_bytes p.name) && every (λ q. carried events (name_bytes p.name) (as_pair q)) (vec_items p.params)
+    named events (name_bytes p.name) && list_all (λ q. carried events (name_bytes p.name) (as_pair q)) (vec_items p.params)
 
 abbrev pub test_declared : List Event → Test → Bool
-test_declared events True = true
-test_declared events False = true
-test_declared events (First p) = pattern_declared events p
-test_declared events (Any p) = pattern_declared events p
-test_declared events (NoFirst p) = pattern_declared events p
-test_declared events (NoAny p) = pattern_declared events p
+test_declared events t = option_map_or (pattern_declared events) (test_pattern t) true
 
 abbrev pub count_declared : List Event → Count → Bool
-count_declared events (First' p) = pattern_declared events p
-count_declared events (Any' p) = pattern_declared events p
+count_declared events c = pattern_declared events (count_pattern c)
 
 -- The permitted names are declared, and each parameter is carried by some event.
 abbrev pub names_declared : List Event → PermittedNames → Bool
 names_declared events p =
-    every (λ n. named events (name_bytes n)) (vec_items p.names) && every (λ q. carried_anywhere events (as_pair q)) (vec_items p.having)
+    list_all (λ n. named events (name_bytes n)) (vec_items p.names) && list_all (λ q. carried_anywhere events (as_pair q)) (vec_items p.having)
 
 -- The event is declared, and events of its name carry each permitted value of the parameter, and each of the other parameters.
 abbrev pub values_declared : List Event → PermittedValues → Bool
 values_declared events p =
     named events (name_bytes p.event) &&
-    every (λ v. carried events (name_bytes p.event) (name_bytes p.param, name_bytes v)) (vec_items p.values) &&
-    every (λ q. carried events (name_bytes p.event) (as_pair q)) (vec_items p.having)
+    list_all (λ v. carried events (name_bytes p.event) (name_bytes p.param, name_bytes v)) (vec_items p.values) &&
+    list_all (λ q. carried events (name_bytes p.event) (as_pair q)) (vec_items p.having)
 
 abbrev pub row_declared : List Event → Row → Bool
 row_declared events (Until a b) = test_declared events a && test_declared events b

@@ -1,7 +1,7 @@
 -- What is asked of the declared events beside each other. Assumes nothing.
 use Rattle.std.specs.Prelude.{Bool, true, false, not, ◌&&◌, ◌||◌, List, vec_items}
+use Rattle.std.specs.List.{list_all}
 use Rattle.std.specs.Str.{bytes_eq}
-use Rattle.text.specs.Clean.{every}
 use Rattle.text.specs.Lists.{apart}
 use Rattle.text.specs.Names.{name_bytes}
 use Rattle.osl.specs.declared.event.Class.{Class}
@@ -29,4 +29,4 @@ abbrev pub params_once : Event → Bool
 params_once e = apart params_clash (vec_items e.params)
 
 abbrev pub events_apart : List Event → Bool
-events_apart events = apart events_clash events && every params_once events
+events_apart events = apart events_clash events && list_all params_once events

@@ -1,7 +1,7 @@
 -- What is asked of an event or a row by itself. Assumes nothing.
 use Rattle.std.specs.Prelude.{ℕ, Bool, true, not, ◌&&◌, vec_items, vec_len, nat_le, nat_lt}
+use Rattle.std.specs.List.{list_any}
 use Rattle.std.specs.Str.{bytes_eq}
-use Rattle.text.specs.Lists.{some}
 use Rattle.text.specs.Names.{name_bytes}
 use Rattle.osl.specs.declared.event.Event.{Event}
 use Rattle.osl.specs.declared.event.Param.{Param}
@@ -60,4 +60,4 @@ row_free (Most l c) = true
 row_free (MostUntil l c b) = true
 row_free (Answer n a b) = true
 row_free (Names p) = true
-row_free (Values p) = not (some (called (name_bytes p.param)) (vec_items p.having))
+row_free (Values p) = not (list_any (called (name_bytes p.param)) (vec_items p.having))

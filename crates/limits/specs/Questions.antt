@@ -1,6 +1,6 @@
 -- The questions that the parts of a sheet answer, and the first that says no. Assumes nothing.
-use Rattle.std.specs.Prelude.{ℕ, ◌*◌, Bool, true, cond, ◌&&◌, List, [], ◌∷◌, length, Some, None, Option, nat_le}
-use Rattle.text.specs.Clean.{every}
+use Rattle.std.specs.Prelude.{ℕ, ◌*◌, Bool, true, not, ◌&&◌, List, [], ◌∷◌, length, Option, nat_le}
+use Rattle.std.specs.List.{list_all, find}
 use Rattle.watch.specs.Letters.{most_events}
 use Rattle.watch.specs.Watchers.{most_marks, most_states}
 use Rattle.osl.specs.declared.event.Event.{Event}
@@ -32,12 +32,12 @@ product (r ∷ rs) = states r * product rs
 -- What each question says, yes or no, of some events, rows and what is kept.
 abbrev pub says : Refusal → List Event → List Row → Formula → Bool
 says Counts events rows keep = nat_le 1 (length events) && nat_le (length events) most_events && nat_le 1 (length rows) && nat_le (length rows) most_marks
-says Form events rows keep = every event_formed events && every row_formed rows
-says Range events rows keep = every row_in_range rows
+says Form events rows keep = list_all event_formed events && list_all row_formed rows
+says Range events rows keep = list_all row_in_range rows
 says Events events rows keep = events_apart events
-says Undeclared events rows keep = every (row_declared events) rows
-says Fixed events rows keep = every row_free rows
-says Terms events rows keep = every (term_within (length rows)) (written keep)
+says Undeclared events rows keep = list_all (row_declared events) rows
+says Fixed events rows keep = list_all row_free rows
+says Terms events rows keep = list_all (term_within (length rows)) (written keep)
 says States events rows keep = nat_le (product rows) most_states
 
 -- The questions in their order.
@@ -46,12 +46,8 @@ asked = Counts ∷ (Form ∷ (Range ∷ (Events ∷ (Undeclared ∷ (Fixed ∷ (
 
 -- Every question says yes.
 abbrev pub all_yes : List Event → List Row → Formula → Bool
-all_yes events rows keep = every (λ q. says q events rows keep) asked
+all_yes events rows keep = list_all (λ q. says q events rows keep) asked
 
--- The first question of a list that says no.
-abbrev pub first_no : List Refusal → List Event → List Row → Formula → Option Refusal
-first_no [] events rows keep = None
-first_no (q ∷ qs) events rows keep = cond (says q events rows keep) (first_no qs events rows keep) (Some q)
-
+-- The first question that says no.
 abbrev pub judged : List Event → List Row → Formula → Option Refusal
-judged events rows keep = first_no asked events rows keep
+judged events rows keep = find (λ q. not (says q events rows keep)) asked

@@ -1,40 +1,31 @@
 // What is asked of an event or a row by itself.
 ghost use Rattle.std.specs.Prelude.{◌≡◌, nat_le};
+ghost use Rattle.std.specs.List.{list_any};
 ghost use Rattle.text.specs.Names.{name_bytes};
 ghost use Rattle.limits.specs.Forms.{event_formed, row_formed, row_in_range, row_free, called, most_number};
 
 use osl::{Event, Param, Row};
-use text::{Asks, Name, any};
+use text::Name;
 
 const MOST_PARAMS: usize = 4;
 
 const MOST_NUMBER: u16 = 1_000;
 
-// Has the event at most four parameters?
-#[derive(Drop)]
-pub(crate) struct EventForm;
-
-impl Asks<Event> for EventForm {
-    ghost asks = { λ _ e. event_formed e };
-
-    fn ask(&self, event: &Event) -> bool {
-        event.params.len() <= MOST_PARAMS
-    }
+// Whether the event has at most four parameters.
+pub(crate) fn is_event_formed(event: &Event) -> bool
+    ensures { result ≡ event_formed event.now }
+{
+    event.params.len() <= MOST_PARAMS
 }
 
-// Does a permit name something that is permitted?
-#[derive(Drop)]
-pub(crate) struct RowForm;
-
-impl Asks<Row> for RowForm {
-    ghost asks = { λ _ row. row_formed row };
-
-    fn ask(&self, row: &Row) -> bool {
-        match row {
-            Row::Names(permit) => permit.names.len() > 0,
-            Row::Values(permit) => permit.values.len() > 0,
-            _ => true,
-        }
+// Whether a permit names something that is permitted.
+pub(crate) fn is_row_formed(row: &Row) -> bool
+    ensures { result ≡ row_formed row.now }
+{
+    match row {
+        Row::Names(permit) => !permit.names.is_empty(),
+        Row::Values(permit) => !permit.values.is_empty(),
+        _ => true,
     }
 }
 
@@ -44,56 +35,29 @@ fn is_in_range(n: u16) -> bool
     n <= MOST_NUMBER
 }
 
-// Is the row's number in range?
-#[derive(Drop)]
-pub(crate) struct RowRange;
-
-impl Asks<Row> for RowRange {
-    ghost asks = { λ _ row. row_in_range row };
-
-    fn ask(&self, row: &Row) -> bool {
-        match row {
-            Row::After(n, _) => is_in_range(*n),
-            Row::Within(n, _) => 0 < *n && is_in_range(*n),
-            Row::During(n, _) => 0 < *n && is_in_range(*n),
-            Row::Most(l, _) => is_in_range(*l),
-            Row::MostUntil(l, _, _) => is_in_range(*l),
-            Row::Answer(n, _, _) => 0 < *n && is_in_range(*n),
-            _ => true,
-        }
+// Whether the row's number is in range.
+pub(crate) fn is_row_in_range(row: &Row) -> bool
+    ensures { result ≡ row_in_range row.now }
+{
+    match row {
+        Row::After(n, _) | Row::Most(n, _) | Row::MostUntil(n, _, _) => is_in_range(*n),
+        Row::Within(n, _) | Row::During(n, _) | Row::Answer(n, _, _) => 0 < *n && is_in_range(*n),
+        _ => true,
     }
 }
 
-// Has the parameter this name?
-#[derive(Drop)]
-struct Called<'a> {
-    name: &'a Name,
+fn is_fixed(name: &Name, params: &[Param]) -> bool
+    ensures { result ≡ list_any (called (name_bytes name.now)) params.now }
+{
+    params.iter().any(|param| *name == param.name)
 }
 
-impl Asks<Param> for Called<'_> {
-    ghost asks = { λ q p. called (name_bytes q.name.now) p };
-
-    fn ask(&self, param: &Param) -> bool {
-        self.name.is(&param.name)
-    }
-}
-
-// Do the row's other parameters leave the one free whose values are permitted?
-#[derive(Drop)]
-pub(crate) struct RowFree;
-
-impl Asks<Row> for RowFree {
-    ghost asks = { λ _ row. row_free row };
-
-    fn ask(&self, row: &Row) -> bool {
-        match row {
-            Row::Values(permit) => !any(
-                &permit.having,
-                &Called {
-                    name: &permit.param,
-                },
-            ),
-            _ => true,
-        }
+// Whether the row's other parameters leave the one free whose values are permitted.
+pub(crate) fn is_row_free(row: &Row) -> bool
+    ensures { result ≡ row_free row.now }
+{
+    match row {
+        Row::Values(permit) => !is_fixed(&permit.param, &permit.having),
+        _ => true,
     }
 }

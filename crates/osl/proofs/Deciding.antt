@@ -1,10 +1,11 @@
 -- The tests of a step decide what they stand for. Assumes nothing.
-use Rattle.std.proofs.Common.{◌≡◌, ℕ, Bool, true, false, not, ◌&&◌, ◌||◌, List, [], ◌∷◌, Decides, sym, refl, ap, subst, inl, inr, ⊎_elim, arith}
+use Rattle.std.proofs.Common.{◌≡◌, Bool, true, false, not, ◌&&◌, ◌||◌, List, [], ◌∷◌, Decides, sym, refl, ap, subst, inl, inr, ⊎_elim}
 use mathlib.Core.Bool.{false≢true}
 use Rattle.std.proofs.lemmas.Bool.Decides.{Decides-and, Decides-or, Decides-not, Decides-like, not_from_Decides}
-use Rattle.std.proofs.lemmas.Bool.{or_cases, or_parts}
+use Rattle.std.proofs.lemmas.Bool.{or_cases, or_parts, true_from_ne_false}
 use Rattle.std.proofs.lemmas.Slice.Eq.{bytes_eq-Decides}
 use Rattle.std.specs.Str.{bytes_eq}
+use Rattle.std.specs.List.{list_any, list_all}
 use Rattle.watch.specs.Classical.{Exists}
 use Rattle.osl.specs.Osl as osl
 use Rattle.osl.specs.Osl.{◌∈◌, Word, Params, Class, usage, other, Event, Index, start, ongoing, IndEvent, Formula, ◌refines◌, Satisfies, same_pair, has, within_params, refines?, is_start, satisfies?}
@@ -13,13 +14,11 @@ use Rattle.osl.specs.Matching.{listed, strays}
 
 -- some indexed event of a step satisfies an event expression
 abbrev pub happens : Formula → List IndEvent → Bool
-happens φ [] = false
-happens φ (ie ∷ ies) = satisfies? ie φ || happens φ ies
+happens φ ies = list_any (λ ie. satisfies? ie φ) ies
 
 -- no indexed event of a step is astray
 abbrev pub none : (Event → Bool) → List IndEvent → Bool
-none astray [] = true
-none astray (ie ∷ ies) = not (astray ie.event) && none astray ies
+none astray ies = list_all (λ ie. not (astray ie.event)) ies
 
 abbrev pub is_usage : Class → Bool
 is_usage osl.usage = true
@@ -43,20 +42,12 @@ stable false d h = absurd (h (λ p. false≢true (d.1 p)))
 refuted : {P : Type 0} → (P → ⊥) → Decides false P
 refuted fails = (λ e. absurd (false≢true e), λ p. absurd (fails p))
 
--- a test that cannot be false is true
-by_false : (r : Bool) → (r ≡ false → ⊥) → r ≡ true
-by_false true h = refl
-by_false false h = absurd (h refl)
-
-pub word_decides : (u w : Word) → Decides (bytes_eq u w) (u ≡ w)
-word_decides u w = bytes_eq-Decides u w
-
 pub pair_decides : (p q : Word × Word) → Decides (same_pair p q) (p ≡ q)
 pair_decides p q =
     Decides-like (same_pair p q)
     (λ h i. (h.0 i, h.1 i))
     (λ e. (ap (λ (r : Word × Word). r.0) e, ap (λ (r : Word × Word). r.1) e))
-    (Decides-and (bytes_eq p.0 q.0) (bytes_eq p.1 q.1) (word_decides p.0 q.0) (word_decides p.1 q.1))
+    (Decides-and (bytes_eq p.0 q.0) (bytes_eq p.1 q.1) (bytes_eq-Decides p.0 q.0) (bytes_eq-Decides p.1 q.1))
 
 pub has_decides : (ps : Params) (p : Word × Word) → Decides (has ps p) (p ∈ ps)
 has_decides [] p = refuted (λ h. h)
@@ -64,7 +55,7 @@ has_decides (q ∷ qs) p = Decides-or (same_pair p q) (has qs p) (pair_decides p
 
 pub listed_decides : (ws : List Word) (w : Word) → Decides (listed ws w) (w ∈ ws)
 listed_decides [] w = refuted (λ h. h)
-listed_decides (x ∷ xs) w = Decides-or (bytes_eq w x) (listed xs w) (word_decides w x) (listed_decides xs w)
+listed_decides (x ∷ xs) w = Decides-or (bytes_eq w x) (listed xs w) (bytes_eq-Decides w x) (listed_decides xs w)
 
 pub within_decides : (ps qs : Params) → Decides (within_params ps qs) ((p : Word × Word) → p ∈ ps → p ∈ qs)
 within_decides [] qs = (λ _ p h. absurd h, λ _. refl)
@@ -77,15 +68,15 @@ within_decides (p ∷ ps) qs =
 pub refines_decides : (e₂ e₁ : Event) → Decides (refines? e₂ e₁) (e₂ refines e₁)
 refines_decides e₂ e₁ =
     Decides-and (bytes_eq e₁.name e₂.name) (within_params e₁.params e₂.params)
-    (word_decides e₁.name e₂.name) (within_decides e₁.params e₂.params)
+    (bytes_eq-Decides e₁.name e₂.name) (within_decides e₁.params e₂.params)
 
 start_decides : (i : Index) → Decides (is_start i) (i ≡ start)
 start_decides start = (λ _. refl, λ _. refl)
-start_decides ongoing = refuted (λ e. let z : ◌≡◌ {A = ℕ} 0 1 = cc in omega arith)
+start_decides ongoing = refuted (λ e. cc)
 
 pub usage_decides : (c : Class) → Decides (is_usage c) (c ≡ usage)
 usage_decides usage = (λ _. refl, λ _. refl)
-usage_decides other = refuted (λ e. let z : ◌≡◌ {A = ℕ} 0 1 = cc in omega arith)
+usage_decides other = refuted (λ e. cc)
 
 pub satisfies_decides : (ie : IndEvent) (φ : Formula) → Decides (satisfies? ie φ) (Satisfies ie φ)
 satisfies_decides ie (First e) =
@@ -117,7 +108,7 @@ happens_decides φ (ie ∷ ies) = (
       (λ s no. (happens_decides φ ies).0 s (λ x h. no x (inr h.0, h.1)))
       (or_cases (satisfies? ie φ) (happens φ ies) e),
   λ some.
-      by_false (satisfies? ie φ || happens φ ies) (λ e.
+      true_from_ne_false (satisfies? ie φ || happens φ ies) (λ e.
       let parts = or_parts (satisfies? ie φ) (happens φ ies) e in
       some (λ x h.
       ⊎_elim
@@ -166,7 +157,7 @@ strays_decides allowed param (p ∷ ps) =
     (λ m. inr (h.0, m, h.2))
     h.1)
     (Decides-or (bytes_eq param p.0 && not (listed allowed p.1)) (strays param allowed ps)
-    (Decides-and (bytes_eq param p.0) (not (listed allowed p.1)) (word_decides param p.0)
+    (Decides-and (bytes_eq param p.0) (not (listed allowed p.1)) (bytes_eq-Decides param p.0)
     (Decides-not (listed allowed p.1) (listed_decides allowed p.1)))
     (strays_decides allowed param ps))
 
@@ -177,6 +168,6 @@ pub stray_param_decides :
     (((p : Word × Word) → p ∈ having → p ∈ e.params) × ((v : Word) × ((param, v) ∈ e.params) × (v ∈ allowed → ⊥))))
 stray_param_decides allowed param name having e =
     Decides-and (bytes_eq name e.name) (within_params having e.params && strays param allowed e.params)
-    (word_decides name e.name)
+    (bytes_eq-Decides name e.name)
     (Decides-and (within_params having e.params) (strays param allowed e.params)
     (within_decides having e.params) (strays_decides allowed param e.params))

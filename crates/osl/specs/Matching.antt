@@ -1,7 +1,7 @@
 -- Which declared events a row speaks of. Assumes nothing.
 use Rattle.std.specs.Prelude.{ℕ, zero, suc, Bool, true, false, not, ◌&&◌, List, [], ◌∷◌, vec_items}
 use Rattle.std.specs.Str.{bytes_eq}
-use Rattle.text.specs.Lists.{some}
+use Rattle.std.specs.List.{list_any}
 use Rattle.text.specs.Names.{name_bytes}
 use Rattle.osl.specs.declared.event.Class.{Class}
 use Rattle.osl.specs.declared.event.Class.TheVariants.{Use, Other}
@@ -38,7 +38,7 @@ is_use Use = true
 is_use Other = false
 
 abbrev pub listed : List Word → Word → Bool
-listed ws w = some (bytes_eq w) ws
+listed ws w = list_any (bytes_eq w) ws
 
 -- Permitted names forbid the uses that have the parameters and another name.
 abbrev pub names_forbid : PermittedNames → Event → Bool
@@ -52,7 +52,7 @@ abbrev pub stray_pair : Word → List Word → Word × Word → Bool
 stray_pair param values p = bytes_eq param p.0 && not (listed values p.1)
 
 abbrev pub strays : Word → List Word → Params → Bool
-strays param values ps = some (stray_pair param values) ps
+strays param values ps = list_any (stray_pair param values) ps
 
 -- Permitted values forbid the events of the name that have the parameters and another value of the one.
 abbrev pub values_forbid : PermittedValues → Event → Bool

@@ -4,8 +4,7 @@
 -- means what OSL says to a reader who reasons classically. Assumes nothing.
 use Rattle.std.specs.Prelude.{◌≡◌, ℕ, zero, suc, ◌+◌, ◌<◌, ◌≤◌, Bool, true, false, cond, ◌&&◌, ◌⊎◌, List, [], ◌∷◌}
 use Rattle.std.specs.Str.{bytes_eq}
-use Rattle.text.specs.Clean.{every}
-use Rattle.text.specs.Lists.{some}
+use Rattle.std.specs.List.{list_any, list_all}
 use Rattle.watch.specs.Classical.{Either, Exists}
 
 infix 50 ◌∈◌
@@ -95,11 +94,11 @@ abbrev pub same_pair : Word × Word → Word × Word → Bool
 same_pair p q = bytes_eq p.0 q.0 && bytes_eq p.1 q.1
 
 abbrev pub has : Params → Word × Word → Bool
-has qs p = some (same_pair p) qs
+has qs p = list_any (same_pair p) qs
 
 -- each pair of the first list stands in the second
 abbrev pub within_params : Params → Params → Bool
-within_params ps qs = every (has qs) ps
+within_params ps qs = list_all (has qs) ps
 
 abbrev pub refines? : Event → Event → Bool
 refines? e₂ e₁ = bytes_eq e₁.name e₂.name && within_params e₁.params e₂.params

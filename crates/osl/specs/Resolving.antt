@@ -1,7 +1,9 @@
 -- The sets of declared events that a row's tests, counts and permits speak of. Assumes nothing.
-use Rattle.std.specs.Prelude.{Bool, false, List, []}
+use Rattle.std.specs.Prelude.{Bool, false, List, [], Some, None, Option}
+use Rattle.std.specs.Option.{option_map_or}
 use Rattle.watch.specs.Letters.{most_events}
 use Rattle.osl.specs.declared.event.Event.{Event}
+use Rattle.osl.specs.declared.event.Pattern.{Pattern}
 use Rattle.osl.specs.declared.row.Test.{Test}
 use Rattle.osl.specs.declared.row.Test.TheVariants.{True, False, First, Any, NoFirst, NoAny}
 use Rattle.osl.specs.declared.row.Count.{Count}
@@ -18,17 +20,27 @@ set_of p events = record { flags = chosen p most_events events }
 abbrev pub no_events : EventSet
 no_events = set_of (λ _. false) []
 
+-- the pattern that a test or a count speaks of
+abbrev pub test_pattern : Test → Option Pattern
+test_pattern True = None
+test_pattern False = None
+test_pattern (First p) = Some p
+test_pattern (Any p) = Some p
+test_pattern (NoFirst p) = Some p
+test_pattern (NoAny p) = Some p
+
+abbrev pub count_pattern : Count → Pattern
+count_pattern (First' p) = p
+count_pattern (Any' p) = p
+
+abbrev pub pattern_set : List Event → Pattern → EventSet
+pattern_set events p = set_of (matches p) events
+
 abbrev pub test_set : List Event → Test → EventSet
-test_set events True = no_events
-test_set events False = no_events
-test_set events (First p) = set_of (matches p) events
-test_set events (Any p) = set_of (matches p) events
-test_set events (NoFirst p) = set_of (matches p) events
-test_set events (NoAny p) = set_of (matches p) events
+test_set events t = option_map_or (pattern_set events) (test_pattern t) no_events
 
 abbrev pub count_set : List Event → Count → EventSet
-count_set events (First' p) = set_of (matches p) events
-count_set events (Any' p) = set_of (matches p) events
+count_set events c = pattern_set events (count_pattern c)
 
 abbrev pub matched_by : List Event → Row → Matched
 matched_by events (Until a b) = record { first = test_set events a; second = test_set events b }

@@ -3,6 +3,7 @@ use Rattle.std.specs.Prelude.{List, map, vec_items}
 use Rattle.text.specs.Names.{name_bytes}
 use Rattle.text.specs.declared.name.Name.{Name}
 use Rattle.osl.specs.declared.event.Param.{Param}
+use Rattle.osl.specs.declared.event.Pair.{Pair}
 use Rattle.osl.specs.declared.event.Class.{Class}
 use Rattle.osl.specs.declared.event.Class.TheVariants.{Use, Other}
 use Rattle.osl.specs.declared.event.Event.{Event}
@@ -21,6 +22,9 @@ words ns = map name_bytes ns
 
 abbrev pub as_pair : Param → Word × Word
 as_pair p = (name_bytes p.name, name_bytes p.value)
+
+abbrev pub pair_words : Pair → Word × Word
+pair_words p = (name_bytes p.name.now, name_bytes p.value.now)
 
 abbrev pub pairs : List Param → Params
 pairs ps = map as_pair ps

@@ -8,8 +8,15 @@ pub struct Param {
     pub value: Name,
 }
 
+// The name of a parameter and a value, wherever these two stand.
+#[derive(Clone, Copy, PartialEq, Eq)]
+pub struct Pair<'a> {
+    pub name: &'a Name,
+    pub value: &'a Name,
+}
+
 // Whether an event uses what is licensed.
-#[derive(Clone, Copy)]
+#[derive(Clone, Copy, PartialEq, Eq, Debug)]
 pub enum Class {
     Use,
     Other,

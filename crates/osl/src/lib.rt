@@ -10,7 +10,7 @@ mod published;
 mod row;
 
 pub use choosing::{EventSet, PLACES};
-pub use event::{Class, Event, Param, Pattern};
+pub use event::{Class, Event, Pair, Param, Pattern};
 pub use matched::Matched;
 pub use published::{counts_are_sizes, operators_are_as_published};
 pub use row::{Count, PermittedNames, PermittedValues, Row, Test};

@@ -1,9 +1,10 @@
 // Which declared events a row speaks of. Names are compared here, once; stepping then only looks at the sets.
 ghost use Rattle.std.specs.Prelude.{◌≡◌};
-ghost use Rattle.osl.specs.Resolving.{test_set, count_set, matched_by};
+ghost use Rattle.osl.specs.Matching.{matches as matching};
+ghost use Rattle.osl.specs.Resolving.{set_of, no_events, test_set, count_set, matched_by};
 
 use crate::choosing::EventSet;
-use crate::event::Event;
+use crate::event::{Event, Pattern};
 use crate::row::{Count, Row, Test};
 
 // The events that the row's first test, its count or its permit speaks of, and those that its second test does.
@@ -13,17 +14,21 @@ pub struct Matched {
     pub second: EventSet,
 }
 
+impl Pattern {
+    fn matched(&self, events: &[Event]) -> EventSet
+        ensures { result ≡ set_of (matching self.now) events.now }
+    {
+        EventSet::of(events, |event| self.matches(event))
+    }
+}
+
 impl Test {
     fn matched(&self, events: &[Event]) -> EventSet
         ensures { result ≡ test_set events.now self.now }
     {
-        match self {
-            Test::True => EventSet::NONE,
-            Test::False => EventSet::NONE,
-            Test::First(pattern) => EventSet::of(pattern, events),
-            Test::Any(pattern) => EventSet::of(pattern, events),
-            Test::NoFirst(pattern) => EventSet::of(pattern, events),
-            Test::NoAny(pattern) => EventSet::of(pattern, events),
+        match self.pattern() {
+            None => EventSet::NONE,
+            Some(pattern) => pattern.matched(events),
         }
     }
 }
@@ -32,9 +37,18 @@ impl Count {
     fn matched(&self, events: &[Event]) -> EventSet
         ensures { result ≡ count_set events.now self.now }
     {
-        match self {
-            Count::First(pattern) => EventSet::of(pattern, events),
-            Count::Any(pattern) => EventSet::of(pattern, events),
+        self.pattern().matched(events)
+    }
+}
+
+impl Matched {
+    // Where there is no second test.
+    fn by_one(set: EventSet) -> Matched
+        ensures { result ≡ record { first = set; second = no_events } }
+    {
+        Matched {
+            first: set,
+            second: EventSet::NONE,
         }
     }
 }
@@ -43,18 +57,25 @@ impl Row {
     pub fn matched(&self, events: &[Event]) -> Matched
         ensures { result ≡ matched_by events.now self.now }
     {
-        let (first, second) = match self {
-            Row::Until(a, b) => (a.matched(events), b.matched(events)),
-            Row::Always(a) => (a.matched(events), EventSet::NONE),
-            Row::After(_, a) => (a.matched(events), EventSet::NONE),
-            Row::Within(_, a) => (a.matched(events), EventSet::NONE),
-            Row::During(_, a) => (a.matched(events), EventSet::NONE),
-            Row::Most(_, c) => (c.matched(events), EventSet::NONE),
-            Row::MostUntil(_, c, b) => (c.matched(events), b.matched(events)),
-            Row::Answer(_, a, b) => (a.matched(events), b.matched(events)),
-            Row::Names(permit) => (EventSet::of(permit, events), EventSet::NONE),
-            Row::Values(permit) => (EventSet::of(permit, events), EventSet::NONE),
-        };
-        Matched { first, second }
+        match self {
+            Row::Until(a, b) | Row::Answer(_, a, b) => Matched {
+                first: a.matched(events),
+                second: b.matched(events),
+            },
+            Row::Always(a) | Row::After(_, a) | Row::Within(_, a) | Row::During(_, a) => {
+                Matched::by_one(a.matched(events))
+            }
+            Row::Most(_, counted) => Matched::by_one(counted.matched(events)),
+            Row::MostUntil(_, counted, until) => Matched {
+                first: counted.matched(events),
+                second: until.matched(events),
+            },
+            Row::Names(permit) => {
+                Matched::by_one(EventSet::of(events, |event| permit.forbids(event)))
+            }
+            Row::Values(permit) => {
+                Matched::by_one(EventSet::of(events, |event| permit.forbids(event)))
+            }
+        }
     }
 }

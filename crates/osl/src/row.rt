@@ -1,4 +1,8 @@
 // The rows of a sheet: each is a term of the licence.
+ghost use Rattle.std.specs.Prelude.{◌≡◌};
+ghost use Rattle.std.specs.Option.{option_copied};
+ghost use Rattle.osl.specs.Resolving.{test_pattern, count_pattern};
+
 use crate::event::{Param, Pattern};
 use text::Name;
 
@@ -17,6 +21,21 @@ pub enum Test {
     NoAny(Pattern),
 }
 
+impl Test {
+    // What the test speaks of, unless it is always true or always false.
+    pub fn pattern(&self) -> Option<&Pattern>
+        ensures { option_copied result ≡ test_pattern self.now }
+    {
+        match self {
+            Test::True | Test::False => None,
+            Test::First(pattern)
+            | Test::Any(pattern)
+            | Test::NoFirst(pattern)
+            | Test::NoAny(pattern) => Some(pattern),
+        }
+    }
+}
+
 // What is counted in a step. A matching event of the sheet adds one, however many parameters it has.
 #[derive(Drop)]
 pub enum Count {
@@ -24,6 +43,16 @@ pub enum Count {
     First(Pattern),
     // Where it is starting or ongoing.
     Any(Pattern),
+}
+
+impl Count {
+    pub fn pattern(&self) -> &Pattern
+        ensures { result.now ≡ count_pattern self.now }
+    {
+        match self {
+            Count::First(pattern) | Count::Any(pattern) => pattern,
+        }
+    }
 }
 
 // Of the uses that have these parameters, only those of these names are permitted.

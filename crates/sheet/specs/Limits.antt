@@ -6,8 +6,8 @@ use Rattle.std.specs.Str.{bytes_eq}
 use Rattle.std.proofs.lemmas.Bool.{and_parts, or_parts, ltb-true, leb-true, not-true, both_ways, cases_Bool, cond-true, cond-false, false≢true}
 use Rattle.std.proofs.lemmas.Slice.Eq.{bytes_eq-Decides}
 use Rattle.std.proofs.lemmas.Bool.Decides.{not_from_Decides}
-use Rattle.text.specs.Clean.{every}
-use Rattle.text.specs.Lists.{some, apart}
+use Rattle.std.specs.List.{list_all, list_any}
+use Rattle.text.specs.Lists.{apart}
 use Rattle.text.specs.Names.{name_bytes}
 use Rattle.watch.specs.Letters.{most_events}
 use Rattle.watch.specs.Watchers.{most_marks, most_states}
@@ -57,10 +57,10 @@ within events rows keep e =
 at_least_one : (n : ℕ) → (nat_lt 0 n && nat_le n 1000) ≡ true → 0 < n
 at_least_one n e = ltb-true 0 n (and_parts (nat_lt 0 n) (nat_le n 1000) e).0
 
-unfixed : (ps : List Param) (w : Word) → some (called w) ps ≡ false → (v : Word) → (w, v) ∈ pairs ps → ⊥
+unfixed : (ps : List Param) (w : Word) → list_any (called w) ps ≡ false → (v : Word) → (w, v) ∈ pairs ps → ⊥
 unfixed [] w e v m = m
 unfixed (p ∷ ps) w e v m =
-    let q = or_parts (called w p) (some (called w) ps) e in
+    let q = or_parts (called w p) (list_any (called w) ps) e in
     ⊎_elim
     (λ is. not_from_Decides (called w p) (bytes_eq-Decides w (name_bytes p.name)) q.0 (ap (λ (r : Word × Word). r.0) is))
     (λ k. unfixed ps w q.1 v k)
@@ -76,13 +76,13 @@ lawful_row (Most l c) e f = tt
 lawful_row (MostUntil l c b) e f = tt
 lawful_row (Answer n a b) e f = at_least_one n e
 lawful_row (Names p) e f = tt
-lawful_row (Values p) e f = unfixed (vec_items p.having) (name_bytes p.param) (not-true (some (called (name_bytes p.param)) (vec_items p.having)) f)
+lawful_row (Values p) e f = unfixed (vec_items p.having) (name_bytes p.param) (not-true (list_any (called (name_bytes p.param)) (vec_items p.having)) f)
 
-lawful_all : (rows : List Row) → every row_in_range rows ≡ true → every row_free rows ≡ true → AllByRecursion Lawful rows
+lawful_all : (rows : List Row) → list_all row_in_range rows ≡ true → list_all row_free rows ≡ true → AllByRecursion Lawful rows
 lawful_all [] e f = tt
 lawful_all (r ∷ rs) e f =
-    let p = and_parts (row_in_range r) (every row_in_range rs) e in
-    let q = and_parts (row_free r) (every row_free rs) f in
+    let p = and_parts (row_in_range r) (list_all row_in_range rs) e in
+    let q = and_parts (row_free r) (list_all row_free rs) f in
     (lawful_row r p.0 q.0, lawful_all rs p.1 q.1)
 
 pub lawful_rows : (events : List Event) (rows : List Row) (keep : Formula) → all_yes events rows keep ≡ true → AllByRecursion Lawful rows
@@ -119,9 +119,9 @@ module _ (e d : Event) (fine : events_clash e d ≡ false) where
       all_true true false c x y z = y
       all_true false b c x y z = x
 
-none_of : (e : Event) (es : List Event) → some (events_clash e) es ≡ false → AllByRecursion (λ d. events_clash e d ≡ false) es
+none_of : (e : Event) (es : List Event) → list_any (events_clash e) es ≡ false → AllByRecursion (λ d. events_clash e d ≡ false) es
 none_of e [] h = tt
-none_of e (d ∷ ds) h = let p = or_parts (events_clash e d) (some (events_clash e) ds) h in (p.0, none_of e ds p.1)
+none_of e (d ∷ ds) h = let p = or_parts (events_clash e d) (list_any (events_clash e) ds) h in (p.0, none_of e ds p.1)
 
 all_map : {X : Type 0} {P Q : X → Type 0} → ((x : X) → P x → Q x) → (xs : List X) → AllByRecursion P xs → AllByRecursion Q xs
 all_map f [] h = tt
@@ -148,8 +148,8 @@ beside e es d fine is =
 classed : (es : List Event) → apart events_clash es ≡ true → AllByRecursion (λ e. class_of es (name_bytes e.name) ≡ as_class e.class) es
 classed [] h = tt
 classed (e ∷ es) h =
-    let p = and_parts (not (some (events_clash e) es)) (apart events_clash es) h in
-    let fine = none_of e es (not-true (some (events_clash e) es) p.0) in (
+    let p = and_parts (not (list_any (events_clash e) es)) (apart events_clash es) h in
+    let fine = none_of e es (not-true (list_any (events_clash e) es) p.0) in (
       cond-true _ _ _ ((bytes_eq-Decides (name_bytes e.name) (name_bytes e.name)).1 refl),
       all_two (λ d f is. beside e es d f is) es fine (classed es p.1),
     )
@@ -161,14 +161,14 @@ members P (d ∷ ds) h y m = ⊎_elim (λ is. subst P (sym is) h.0) (λ k. membe
 differ : (es : List Event) → apart events_clash es ≡ true → Apart SameEvent (map as_event es)
 differ [] h = tt
 differ (e ∷ es) h =
-    let p = and_parts (not (some (events_clash e) es)) (apart events_clash es) h in
-    let fine = none_of e es (not-true (some (events_clash e) es) p.0) in (
+    let p = and_parts (not (list_any (events_clash e) es)) (apart events_clash es) h in
+    let fine = none_of e es (not-true (list_any (events_clash e) es) p.0) in (
       members (λ y. SameEvent (as_event e) y → ⊥) es (all_map (λ d f. not_same e d f) es fine),
       differ es p.1,
     )
 
 apart_yes : (events : List Event) (rows : List Row) (keep : Formula) → all_yes events rows keep ≡ true → apart events_clash events ≡ true
-apart_yes events rows keep e = (and_parts (apart events_clash events) (every params_once events) (passes events rows keep e).apart).0
+apart_yes events rows keep e = (and_parts (apart events_clash events) (list_all params_once events) (passes events rows keep e).apart).0
 
 pub declared : (events : List Event) (rows : List Row) (keep : Formula) → all_yes events rows keep ≡ true → Declared events
 declared events rows keep e =

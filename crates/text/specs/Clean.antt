@@ -1,11 +1,7 @@
 -- Clean lines. Assumes nothing.
-use Rattle.std.specs.Prelude.{ℕ, Bool, true, not, ◌&&◌, List, [], ◌∷◌, length, ◌==◌, nat_le}
+use Rattle.std.specs.Prelude.{ℕ, Bool, not, ◌&&◌, List, length, ◌==◌, nat_le}
 use Rattle.std.specs.List.{list_all}
 use Rattle.text.specs.Words.{words}
-
-abbrev pub every : {X : Type 0} → (X → Bool) → List X → Bool
-every p [] = true
-every p (x ∷ xs) = p x && every p xs
 
 -- From the exclamation mark (33) to the tilde (126).
 abbrev pub visible : ℕ → Bool

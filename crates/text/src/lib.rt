@@ -1,7 +1,7 @@
 // Bytes as lines, words, numbers and names.
 #![tactic(auto)]
 
-mod asking;
+mod apart;
 mod bytes;
 mod clean;
 mod line;
@@ -9,7 +9,7 @@ mod name;
 mod naming;
 mod numbers;
 
-pub use asking::{Asks, Compares, all, any, are_apart};
+pub use apart::are_apart;
 pub use bytes::unended;
 pub use clean::is_clean;
 pub use line::Words;
