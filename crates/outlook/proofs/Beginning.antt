@@ -1,7 +1,8 @@
 -- The start and the end of a search.
-use Rattle.std.proofs.Common.{◌≡◌, ℕ, ◌<◌, ◌≤◌, Bool, true, false, cond, List, length, sym, ap, ◌∙◌, subst, arith}
+use Rattle.std.proofs.Common.{◌≡◌, ℕ, ◌<◌, ◌≤◌, Bool, true, false, cond, List, length, replicate, ⊎_elim, sym, ap, ◌∙◌, subst, arith}
 use native.Mathlib.Nat.{pow-le-pow_right}
-use Rattle.std.proofs.lemmas.Bool.{both_ways}
+use Rattle.std.proofs.lemmas.List.{get_or-replicate, get_or_past}
+use Rattle.std.proofs.lemmas.Bool.{both_ways, cases_lt}
 use Rattle.watch.specs.Letters.{letter_count, digits}
 use Rattle.watch.specs.Watchers.{Watching, Lawful}
 use Rattle.outlook.specs.Outlooks.{at, Foresees}
@@ -16,6 +17,13 @@ use Rattle.outlook.proofs.Pushing.{push_ok}
 
 pub few_letters : (w : Watching) → Lawful w → letter_count w.events ≤ 243
 few_letters w law = pow-le-pow_right {n = digits} (omega arith) law.few_events
+
+-- A new table has no state in it, and a new list of numbers is 0 everywhere.
+pub blank : (s : ℕ) → at (replicate 16384 false) s ≡ false
+blank s = ⊎_elim (λ lt. get_or-replicate 16384 s false false lt) (λ le. get_or_past (replicate 16384 false) s false le) (cases_lt s 16384)
+
+pub zeros : (s : ℕ) → item (replicate 16384 0) s ≡ 0
+zeros s = ⊎_elim (λ lt. get_or-replicate 16384 s 0 0 lt) (λ le. get_or_past (replicate 16384 0) s 0 le) (cases_lt s 16384)
 
 -- A search with nothing on its path.
 pub begin_ok : (w : Watching) (good : List Bool) (x : Search) → Sized x → ((s : ℕ) → at x.keepable s ≡ false) → ((s : ℕ) → at x.breakable s ≡ false) → ((s : ℕ) → at x.seen s ≡ false) → ((s : ℕ) → item x.cursor s ≡ 0) → x.depth ≡ 0 → x.groups ≡ 0 → x.here ≡ 0 → Searching w good x

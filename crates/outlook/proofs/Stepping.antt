@@ -1,13 +1,16 @@
 -- One step of the search keeps what a search keeps, and leaves less to do.
-use Rattle.std.proofs.Common.{◌≡◌, ℕ, ◌+◌, ◌-◌, ◌<◌, ◌≤◌, Bool, true, false, ◌⊎◌, List, length, set, sum_by, sym, ap, ◌∙◌, subst, inl, inr, ⊎_elim, arith, length-set}
+use Rattle.std.proofs.Common.{◌≡◌, ℕ, ◌+◌, ◌-◌, ◌<◌, ◌≤◌, Bool, true, false, ◌⊎◌, List, length, set, sum_by, sym, ap, ◌∙◌, subst, inl, inr, ⊎_elim, arith, length-set, length-take, length-drop, drop, cond, Option, Some, None}
 use Rattle.std.proofs.lemmas.List.Sums.{sum_by-set}
+use Rattle.std.proofs.lemmas.List.{get_or-take, get_or-drop}
+use Rattle.std.proofs.lemmas.Option.{same_Some, none-some}
 use Rattle.std.proofs.lemmas.Bool.{cases_eq, cases_lt}
+use Rattle.std.proofs.lemmas.Bool.Decides.{eqb_tells}
 use Rattle.watch.specs.Letters.{letter_count}
 use Rattle.watch.specs.Watchers.{Watching, Lawful}
 use Rattle.outlook.specs.Outlooks.{at}
 use Rattle.outlook.specs.inner.Ways.{Reaches, here, step, Leads, value, Stays}
-use Rattle.outlook.specs.inner.Tables.{item}
-use Rattle.outlook.specs.inner.Searching.{on, bound, known, Held, Gone, Opens, Spent, Searching, Joined, Left, Stepped, pushed, moved, advanced, learned, noted, absorbed, stood}
+use Rattle.outlook.specs.inner.Tables.{item, In, SomeIn}
+use Rattle.outlook.specs.inner.Searching.{on, bound, group_of, taken_from, known, Held, Gone, Opens, Spent, Searching, Joined, Left, Stepped, pushed, moved, advanced, learned, noted, absorbed, stood}
 use Rattle.outlook.specs.declared.search.Search.{Search}
 use Rattle.outlook.proofs.Basics.{item_same, item_other, for_both, room_left, groups_le, leads_last, leads_here, depth_fits}
 use Rattle.outlook.proofs.Sharing.{still}
@@ -18,6 +21,12 @@ use Rattle.outlook.proofs.Advancing.{advance_ok}
 use Rattle.outlook.proofs.Pushing.{push_ok}
 use Rattle.outlook.proofs.Joining.{joins_ok}
 use Rattle.outlook.proofs.Leaving.{back_ok, leave_ok}
+
+-- A place was taken from the one before its `resume`, or from none.
+taken_case : (x : Search) (p : ℕ) (Q : Option ℕ → Type 0) → ((k : ℕ) → item x.resume p ≡ k + 1 → Q (Some (on x k))) → (item x.resume p ≡ 0 → Q None) → Q (taken_from x p)
+taken_case x p Q some none =
+    let pick : Bool → Option ℕ = λ b. cond b None (Some (on x (item x.resume p - 1))) in
+    ⊎_elim (λ h. subst Q (sym (ap pick h.0)) (none h.1)) (λ h. subst Q (sym (ap pick h.0)) (some (item x.resume p - 1) (omega (arith, h.1)))) (eqb_tells (item x.resume p) 0)
 
 -- One letter less is left.
 fewer : (g : ℕ) (cursor : List ℕ) (s : ℕ) → s < length cursor → item cursor s < g → sum_by (λ c. g - c) (set cursor s (item cursor s + 1)) + 1 ≡ sum_by (λ c. g - c) cursor
@@ -54,21 +63,55 @@ module _ (w : Watching) (law : Lawful w) (good : List Bool) (x : Search) (ok : S
     abbrev x₀ : Search
     x₀ = learned x y.keepable y.breakable
 
+    low_place : (k : ℕ) → item x.resume t ≡ k + 1 → k < x.depth
+    low_place k e = omega (arith, e, ok.resume_le t under, under)
+
     -- What the group hands on is true of all its states, and of the one that it was taken from.
-    told_of : (v : Bool) (z : ℕ) → ((k : ℕ) × (t ≤ k) × (k < x.depth) × (known x v (on x k) ≡ true)) → ((k : ℕ) × (((t ≤ k) × (k < x.depth)) ⊎ (item x.resume t ≡ k + 1)) × (on x k ≡ z)) → ((k : ℕ) × Held x k z) × Reaches w (Stays w good v) z
-    told_of v z from to =
-        let low : to.0 < x.depth = ⊎_elim (λ h. h.1) (λ e. omega (arith, e, ok.resume_le t under, under)) to.1 in (
-          (to.0, (low, to.2)),
-          subst (Reaches w (Stays w good v)) to.2 (leads_to w _ (on x from.0) (leads_last w law good x ok to.0 from.0 low from.2 (λ i some. omega (arith, ok.below i some, is, from.1))) (ok.sound v _ from.3)),
-        )
+    told_of : (v : Bool) (z : ℕ) → ((k : ℕ) × (t ≤ k) × (k < x.depth) × (known x v (on x k) ≡ true)) → ((k : ℕ) × Held x k z) → ((k : ℕ) × Held x k z) × Reaches w (Stays w good v) z
+    told_of v z from to = (
+      to,
+      subst (Reaches w (Stays w good v)) to.1.1 (leads_to w _ (on x from.0) (leads_last w law good x ok to.0 from.0 to.1.0 from.2 (λ i some. omega (arith, ok.below i some, is, from.1))) (ok.sound v _ from.3)),
+    )
+
+    abbrev group : List ℕ
+    group = group_of x t
+
+    long : length group ≡ x.depth - t
+    long = omega (arith, length-take (x.depth - t) (drop t x.path), length-drop t x.path, ok.sized.path, depth_fits w law good x ok)
+
+    at_group : (k : ℕ) → k < length group → item group k ≡ on x (t + k)
+    at_group k lt = get_or-take (x.depth - t) (drop t x.path) k 0 (omega (arith, lt, long)) ∙ get_or-drop t x.path k 0
+
+    some_from : (v : Bool) → SomeIn group (cond v x.keepable x.breakable) → (k : ℕ) × (t ≤ k) × (k < x.depth) × (known x v (on x k) ≡ true)
+    some_from v h = (t + h.0, omega arith, omega (arith, h.1, long), ap (known x v) (sym (at_group h.0 h.1)) ∙ h.2)
+
+    in_group : (z : ℕ) → In group (length group) z → (k : ℕ) × Held x k z
+    in_group z h = (t + h.0, (omega (arith, h.1, long), sym (at_group h.0 h.1) ∙ h.2))
+
+    from_there : (z : ℕ) → taken_from x t ≡ Some z → (k : ℕ) × Held x k z
+    from_there z = taken_case x t (λ f. f ≡ Some z → (k : ℕ) × Held x k z) (λ k e is. (k, (low_place k e, same_Some _ _ is))) (λ _ no. absurd (none-some z no))
+
+    only_of : (v : Bool) → ((z : ℕ) → known x₀ v z ≡ true → (known x v z ≡ true) ⊎ (SomeIn group (cond v x.keepable x.breakable) × (In group (length group) z ⊎ (taken_from x t ≡ Some z)))) → (z : ℕ) → known x₀ v z ≡ true → (known x v z ≡ true) ⊎ (((k : ℕ) × Held x k z) × Reaches w (Stays w good v) z)
+    only_of v only z e =
+        ⊎_elim (λ old. inl old) (λ h. inr (told_of v z (some_from v h.0) (⊎_elim (in_group z) (from_there z) h.1))) (only z e)
+
+    -- What is even over the group is even over its places.
+    even_of : (v : Bool) → ((j k : ℕ) → j < length group → k < length group → known x₀ v (item group j) ≡ true → known x₀ v (item group k) ≡ true) → (j k : ℕ) → t ≤ j → j < x.depth → t ≤ k → k < x.depth → known x₀ v (on x j) ≡ true → known x₀ v (on x k) ≡ true
+    even_of v even j k a b c d e = ap (known x₀ v) (sym (back k c d)) ∙ even (j - t) (k - t) (omega (arith, long)) (omega (arith, long)) (ap (known x₀ v) (back j a b) ∙ e)
+      where
+        back : (i : ℕ) → t ≤ i → i < x.depth → item group (i - t) ≡ on x i
+        back i le lt = at_group (i - t) (omega (arith, long, le, lt)) ∙ ap (on x) (omega (arith, le))
+
+    hands_on : (v : Bool) → ((k q : ℕ) → k < length group → taken_from x t ≡ Some q → known x₀ v (item group k) ≡ true → known x₀ v q ≡ true) → (q : ℕ) → item x.resume t ≡ q + 1 → known x₀ v (on x t) ≡ true → known x₀ v (on x q) ≡ true
+    hands_on v told q is e = told 0 (on x q) (omega (arith, long, under)) (taken_case x t (λ f. f ≡ Some (on x q)) (λ k e. ap (λ (n : ℕ). Some (on x n)) (omega (arith, e, is))) (λ no. absurd (omega (arith, no, is)))) (ap (known x₀ v) (at_group 0 (omega (arith, long, under)) ∙ ap (on x) (omega arith)) ∙ e)
 
     ok₀ : Searching w good x₀
     ok₀ =
-        learn_ok w good x ok y.keepable y.breakable (l.long_keepable ∙ ok.sized.keepable) (l.long_breakable ∙ ok.sized.breakable) (for_both _ l.keepable.kept l.breakable.kept) (for_both _ (λ z e. ⊎_elim (λ old. inl old) (λ h. inr (told_of true z h.0 h.1)) (l.keepable.only z e)) (λ z e. ⊎_elim (λ old. inl old) (λ h. inr (told_of false z h.0 h.1)) (l.breakable.only z e)))
+        learn_ok w good x ok y.keepable y.breakable (l.keepable.long ∙ ok.sized.keepable) (l.breakable.long ∙ ok.sized.breakable) (for_both _ l.keepable.kept l.breakable.kept) (for_both _ (only_of true l.keepable.only) (only_of false l.breakable.only))
 
     pub step_leave : bound x (x.groups - 1) ≡ t → Spent w x (on x t) → Stepped w good x y
     step_leave start done = subst (λ (z : Search). Stepped w good x z) (sym l.same) (record {
-      goes = leave_ok w law good x₀ ok₀ t is done (x.groups - 1) (omega (arith, (ok.first (omega (arith, under))).0)) start (for_both _ l.keepable.even l.breakable.even) (for_both _ l.keepable.told l.breakable.told);
+      goes = leave_ok w law good x₀ ok₀ t is done (x.groups - 1) (omega (arith, (ok.first (omega (arith, under))).0)) start (for_both _ (even_of true l.keepable.even) (even_of false l.breakable.even)) (for_both _ (hands_on true l.keepable.told) (hands_on false l.breakable.told));
       still_seen = λ z e. e;
       less = omega (arith, is, ok.resume_le t under);
     })

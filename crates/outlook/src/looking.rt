@@ -2,112 +2,110 @@
 //
 // Marks only grow, so states that lead to each other show the same marks, and a run can stay at the marks of a state
 // for ever exactly where the state leads back to itself. Each letter of each state is followed once.
-ghost use Rattle.std.specs.Prelude.{◌≡◌, ◌-◌, ◌<◌, Bool, true, false, List};
+ghost use Rattle.std.specs.Prelude.{◌≡◌, ◌-◌, ◌<◌, true, false};
 ghost use Rattle.watch.specs.Letters.{letter_count};
-ghost use Rattle.watch.specs.Watchers.{Watching};
 ghost use Rattle.outlook.specs.Outlooks.{at, Foresees};
 ghost use Rattle.outlook.specs.inner.Tables.{item};
 ghost use Rattle.outlook.specs.inner.Searching.{on, Searching, Stepped, Ran};
 
 use crate::chart::Outlook;
 use crate::search::Search;
-use crate::tables::{MARK_SETS, nowhere, zeros};
+use crate::tables::MARK_SETS;
 use watch::Watcher;
 
-impl Search {
-    // A search with nothing on its path.
-    fn begin() -> Search
-        ensures idle { result.here ≡ 0 }
-        ensures goes { (w : Watching) (good : List Bool) → Searching w good result }
-    {
-        Search {
-            keepable: nowhere(),
-            breakable: nowhere(),
-            seen: nowhere(),
-            cursor: zeros(),
-            path: zeros(),
-            place: zeros(),
-            resume: zeros(),
-            bounds: zeros(),
-            depth: 0,
-            groups: 0,
-            here: 0,
-        }
-    }
+// What a search goes by: the letters of a watcher, and which sets of marks are good.
+struct Guide<'a, W: Watcher> {
+    watcher: &'a W,
+    good: &'a [bool; MARK_SETS],
+    letters: u16,
+    ghost all: { letters ≡ letter_count (W.watching watcher.now).events },
+}
 
+// A derive would ask it of the watcher too, which is only borrowed.
+impl<'a, W: Watcher> Drop for Guide<'a, W> {
+    fn drop(self) {
+        let Guide {
+            watcher: _,
+            good: _,
+            letters: _,
+        } = self;
+    }
+}
+
+// Each method asks that the search goes well so far. As a fact of a struct that holds the search beside the watcher it
+// would be no plainer: it holds ways along the letters, so it would be truncated, and each method would have to
+// promise that the watcher stays.
+impl<'a, W: Watcher> Guide<'a, W> {
     // Follows the next letter of the state at the place that is looked at.
-    fn look<W: Watcher>(&mut self, watcher: &W, good: &[bool; MARK_SETS])
-        requires goes { Searching (W.watching watcher.now) good.now self.old }
-        requires some { 0 < self.old.here }
-        requires more { item self.old.cursor (on self.old (self.old.here - 1)) < letter_count (W.watching watcher.now).events }
-        ensures { Stepped (W.watching watcher.now) good.now self.old self.new }
+    fn look(&self, search: &mut Search)
+        requires goes { Searching (W.watching self.now.watcher.now) self.now.good.now search.old }
+        requires some { 0 < search.old.here }
+        requires more { item search.old.cursor (on search.old (search.old.here - 1)) < self.now.letters }
+        ensures { Stepped (W.watching self.now.watcher.now) self.now.good.now search.old search.new }
     {
-        let place = self.here - 1;
-        let state = self.path[place as usize];
-        let letter = self.cursor[state as usize];
-        let next = watcher.next(state, letter);
-        self.cursor[state as usize] = letter + 1;
-        if !self.seen[next as usize] {
-            self.push(next);
+        let place = search.here - 1;
+        let state = search.path[place as usize];
+        let letter = search.cursor[state as usize];
+        let next = self.watcher.next(state, letter);
+        search.cursor[state as usize] = letter + 1;
+        if !search.seen[next as usize] {
+            search.push(next);
             return;
         }
-        if self.stands(next) {
-            let back = self.place[next as usize];
-            let marks = watcher.shown(state);
-            self.note(state, good[marks.bits as usize]);
-            self.join(back);
+        if search.stands(next) {
+            let back = search.place[next as usize];
+            let marks = self.watcher.shown(state);
+            search.note(state, self.good[marks.bits as usize]);
+            search.join(back);
             return;
         }
-        self.absorb(state, next);
+        search.absorb(state, next);
     }
 
     // One step: a letter more, or a place less.
-    fn step<W: Watcher>(&mut self, watcher: &W, good: &[bool; MARK_SETS], letters: u16)
-        requires all { letters ≡ letter_count (W.watching watcher.now).events }
-        requires goes { Searching (W.watching watcher.now) good.now self.old }
-        requires some { 0 < self.old.here }
-        ensures { Stepped (W.watching watcher.now) good.now self.old self.new }
+    fn step(&self, search: &mut Search)
+        requires goes { Searching (W.watching self.now.watcher.now) self.now.good.now search.old }
+        requires some { 0 < search.old.here }
+        ensures { Stepped (W.watching self.now.watcher.now) self.now.good.now search.old search.new }
     {
-        let place = self.here - 1;
-        let state = self.path[place as usize];
-        if self.cursor[state as usize] < letters {
-            self.look(watcher, good);
+        let place = search.here - 1;
+        let state = search.path[place as usize];
+        if search.cursor[state as usize] < self.letters {
+            self.look(search);
             return;
         }
-        if self.bounds[self.groups as usize - 1] == place {
-            self.leave(place);
+        if search.bounds[search.groups as usize - 1] == place {
+            search.leave(place);
             return;
         }
-        self.here = self.resume[place as usize];
+        search.here = search.resume[place as usize];
     }
 
     // Goes on until the path is empty.
-    fn run<W: Watcher>(&mut self, watcher: &W, good: &[bool; MARK_SETS], letters: u16)
-        requires all { letters ≡ letter_count (W.watching watcher.now).events }
-        requires goes { Searching (W.watching watcher.now) good.now self.old }
-        ensures idle { self.new.here ≡ 0 }
-        ensures ran { Ran (W.watching watcher.now) good.now self.old self.new }
+    fn run(&self, search: &mut Search)
+        requires goes { Searching (W.watching self.now.watcher.now) self.now.good.now search.old }
+        ensures idle { search.new.here ≡ 0 }
+        ensures ran { Ran (W.watching self.now.watcher.now) self.now.good.now search.old search.new }
     {
-        while self.here > 0 {
-            self.step(watcher, good, letters);
+        while search.here > 0 {
+            self.step(search);
         }
     }
 
     // Searches from the state, unless it was seen.
-    fn visit<W: Watcher>(&mut self, watcher: &W, good: &[bool; MARK_SETS], letters: u16, state: u16)
-        requires all { letters ≡ letter_count (W.watching watcher.now).events }
-        requires goes { Searching (W.watching watcher.now) good.now self.old }
-        requires idle { self.old.here ≡ 0 }
-        requires within { state < (W.watching watcher.now).states }
-        ensures idle { self.new.here ≡ 0 }
-        ensures ran { Ran (W.watching watcher.now) good.now self.old self.new }
-        ensures seen { at self.new.seen state ≡ true }
+    fn visit(&self, search: &mut Search, state: u16)
+        requires goes { Searching (W.watching self.now.watcher.now) self.now.good.now search.old }
+        requires idle { search.old.here ≡ 0 }
+        requires within { state < (W.watching self.now.watcher.now).states }
+        ensures idle { search.new.here ≡ 0 }
+        ensures ran { Ran (W.watching self.now.watcher.now) self.now.good.now search.old search.new }
+        ensures seen { at search.new.seen state ≡ true }
     {
-        if self.seen[state as usize] {
+        if search.seen[state as usize] {
             return;
         }
-        self.push(state);
-        self.run(watcher, good, letters);
+        search.push(state);
+        self.run(search);
     }
 }
 
@@ -118,9 +116,14 @@ pub fn outlook<W: Watcher>(watcher: &W, good: &[bool; MARK_SETS]) -> Outlook
     ensures breakable { Foresees (W.watching watcher.now) good.now false (at result.breakable) }
 {
     let sizes = watcher.sizes();
+    let guide = Guide {
+        watcher,
+        good,
+        letters: sizes.letters,
+    };
     let mut search = Search::begin();
     for state in 0..sizes.states {
-        search.visit(watcher, good, sizes.letters, state);
+        guide.visit(&mut search, state);
     }
     Outlook {
         keepable: search.keepable,

@@ -3,9 +3,10 @@
 // The search finds states that lead to each other. States that wait stand on a path, which is cut into groups:
 // the states of a group lead to each other. A letter that leads back into the path joins the groups from there on.
 // A group that no letter is left to join is done, and leaves the path. Nothing is on the heap.
-ghost use Rattle.std.specs.Prelude.{◌≡◌, ℕ, ◌+◌, ◌-◌, ◌<◌, ◌≤◌, true, false};
+ghost use Rattle.std.specs.Prelude.{◌≡◌, ℕ, ◌+◌, ◌-◌, ◌<◌, ◌≤◌, Bool, true, false, List, slice_range};
+ghost use Rattle.watch.specs.Watchers.{Watching};
 ghost use Rattle.outlook.specs.inner.Tables.{item};
-ghost use Rattle.outlook.specs.inner.Searching.{on, bound, Held, pushed, noted, absorbed, Joined, Left};
+ghost use Rattle.outlook.specs.inner.Searching.{on, bound, Held, Searching, pushed, noted, absorbed, Joined, Left};
 
 use crate::tables::{MOST_STATES, share};
 
@@ -32,7 +33,36 @@ pub struct Search {
     pub(crate) here: u16,
 }
 
+// The states at the places from `from` to before `to`.
+fn part(path: &[u16; MOST_STATES], from: u16, to: u16) -> &[u16]
+    requires order { from ≤ to }
+    requires room { to ≤ 16384 }
+    ensures { result.now ≡ slice_range path.now from to }
+{
+    &path[from as usize..to as usize]
+}
+
 impl Search {
+    // A search with nothing on its path.
+    pub(crate) fn begin() -> Search
+        ensures idle { result.here ≡ 0 }
+        ensures goes { (w : Watching) (good : List Bool) → Searching w good result }
+    {
+        Search {
+            keepable: [false; MOST_STATES],
+            breakable: [false; MOST_STATES],
+            seen: [false; MOST_STATES],
+            cursor: [0; MOST_STATES],
+            path: [0; MOST_STATES],
+            place: [0; MOST_STATES],
+            resume: [0; MOST_STATES],
+            bounds: [0; MOST_STATES],
+            depth: 0,
+            groups: 0,
+            here: 0,
+        }
+    }
+
     // Puts a state on the end of the path, in a group of its own.
     pub(crate) fn push(&mut self, state: u16)
         requires room { self.old.depth < 16384 }
@@ -108,8 +138,14 @@ impl Search {
         ensures { Left self.old first self.new }
     {
         let resume = self.resume[first as usize];
-        share(&mut self.keepable, &self.path, first, self.depth, resume);
-        share(&mut self.breakable, &self.path, first, self.depth, resume);
+        let from = if resume == 0 {
+            None
+        } else {
+            Some(self.path[resume as usize - 1])
+        };
+        let group = part(&self.path, first, self.depth);
+        share(&mut self.keepable, group, from);
+        share(&mut self.breakable, group, from);
         self.depth = first;
         self.groups -= 1;
         self.here = resume;

@@ -1,5 +1,5 @@
 -- A search along the letters for the states that can come to rest. Assumes nothing.
-use Rattle.std.specs.Prelude.{◌≡◌, ℕ, ◌+◌, ◌-◌, ◌*◌, ◌<◌, ◌≤◌, Bool, true, false, cond, ◌||◌, ◌⊎◌, List, length, sum_by, count_by, ◌≢◌, slice_set}
+use Rattle.std.specs.Prelude.{◌≡◌, ℕ, ◌+◌, ◌-◌, ◌*◌, ◌<◌, ◌≤◌, Bool, true, false, cond, ◌||◌, ◌⊎◌, List, length, sum_by, count_by, ◌≢◌, slice_set, slice_range, Option, Some, None, if◌then◌else◌, ◌==◌}
 use Rattle.watch.specs.Letters.{letter_count}
 use Rattle.watch.specs.Watchers.{Watching}
 use Rattle.outlook.specs.Outlooks.{at}
@@ -177,12 +177,18 @@ pub record Joined (x : Search) (place : ℕ) (y : Search) : Type 0 where
   pub after : (i : ℕ) → y.groups ≤ i → i < x.groups → place < bound x i
   pub same : y ≡ stood x x.depth y.groups x.here
 
+-- The states from the place on.
+abbrev pub group_of : Search → ℕ → List ℕ
+group_of x first = slice_range x.path first x.depth
+
+-- The state that the place was taken from.
+abbrev pub taken_from : Search → ℕ → Option ℕ
+taken_from x p = if item x.resume p == 0 then None else Some (on x (item x.resume p - 1))
+
 -- The last group left the path, and its knowledge is shared.
 pub record Left (x : Search) (first : ℕ) (y : Search) : Type 0 where
-  pub long_keepable : length y.keepable ≡ length x.keepable
-  pub long_breakable : length y.breakable ≡ length x.breakable
-  pub keepable : Shared x.path first x.depth (item x.resume first) x.keepable y.keepable
-  pub breakable : Shared x.path first x.depth (item x.resume first) x.breakable y.breakable
+  pub keepable : Shared (group_of x first) (taken_from x first) x.keepable y.keepable
+  pub breakable : Shared (group_of x first) (taken_from x first) x.breakable y.breakable
   pub same : y ≡ stood (learned x y.keepable y.breakable) first (x.groups - 1) (item x.resume first)
 
 -- One step further.

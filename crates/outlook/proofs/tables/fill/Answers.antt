@@ -1,10 +1,13 @@
-use Rattle.std.proofs.Common.{arith}
+use Rattle.std.proofs.Common.{ℕ, ◌+◌, true, set, sym, subst, arith}
+use Rattle.outlook.specs.inner.Tables.{Filled}
 use Rattle.outlook.proofs.Sharing.{filled_none, filled_more}
 use Rattle.outlook.proofs.tables.fill.Goals as goal
 
-pub loop-place-init : goal.loop-place-init
-loop-place-init c = filled_none c.args.path.now c.args.from c.args.table.now c.args.from (omega arith)
+pub loop-state-init : goal.loop-state-init
+loop-state-init c = filled_none c.args.group.now c.args.table.now
 
-pub loop-place-preserved : goal.loop-place-preserved
-loop-place-preserved c =
-    filled_more c.args.path.now c.args.from c.args.table.now c.loop-place.place c.loop-place.table (omega arith) (omega (arith, c.requires.within c.loop-place.place (omega arith), c.requires.long)) c.loop-place.invariant
+pub loop-state-preserved : goal.loop-state-preserved
+loop-state-preserved c =
+    let i = c.loop-state.state-index in
+    let t = c.loop-state.table in
+    subst (λ (s : ℕ). Filled c.args.group.now (i + 1) c.args.table.now (set t s true)) (sym c.from.ensures) (filled_more c.args.group.now c.args.table.now i t (omega (arith, c.requires i 0 c.loop-state-test.true, c.loop-state.invariant.long, c.told-table)) c.loop-state.invariant)
