@@ -10,3 +10,6 @@ pub mod Leaving
 pub mod Noting
 pub mod Stepping
 pub mod Beginning
+pub mod Dismissing
+pub mod Showing
+pub mod Steps

@@ -5,7 +5,8 @@ use Rattle.std.proofs.lemmas.List.Folds.{list_any_at}
 use Rattle.std.proofs.lemmas.Option.{same_Some}
 use Rattle.std.proofs.lemmas.Bool.{cases_eq, both_ways, or_cases}
 use Rattle.outlook.specs.Outlooks.{at}
-use Rattle.outlook.specs.inner.Tables.{item, Filled, SomeIn, Shared}
+use Rattle.outlook.specs.inner.Tables.{no_stop, state_at, Filled, SomeIn, Shared}
+use Rattle.outlook.specs.declared.search.Stop.{Stop}
 use Rattle.outlook.proofs.Basics.{at_same, at_other}
 
 -- A write puts a state in, and takes none out.
@@ -13,29 +14,29 @@ pub still : (table : List Bool) (s z : ℕ) → s < length table → at table z 
 still table s z fits e =
     ⊎_elim (λ is. ap (at (set table s true)) is ∙ at_same table s true fits) (λ ne. at_other table s z true ne ∙ e) (cases_eq z s)
 
-pub some_in : (before : List Bool) (group : List ℕ) → list_any (at before) group ≡ true → SomeIn group before
+pub some_in : (before : List Bool) (group : List Stop) → list_any (λ (s : Stop). at before s.state) group ≡ true → SomeIn group before
 some_in before [] e = absurd (both_ways _ refl e)
 some_in before (s ∷ group) e =
     ⊎_elim (λ this. (0, omega arith, this)) (λ rest. let h = some_in before group rest in (suc h.0, omega (arith, h.1), h.2)) (or_cases _ _ e)
 
-pub none_in : (before : List Bool) (group : List ℕ) → list_any (at before) group ≡ false → (k : ℕ) → k < length group → at before (item group k) ≡ true → ⊥
-none_in before group e k lt is = both_ways _ e (list_any_at (at before) group k 0 lt is)
+pub none_in : (before : List Bool) (group : List Stop) → list_any (λ (s : Stop). at before s.state) group ≡ false → (k : ℕ) → k < length group → at before (state_at group k) ≡ true → ⊥
+none_in before group e k lt is = both_ways _ e (list_any_at (λ (s : Stop). at before s.state) group k no_stop lt is)
 
-module _ (group : List ℕ) (before : List Bool) where
+module _ (group : List Stop) (before : List Bool) where
   pub filled_none : Filled group 0 before before
   filled_none = record { long = refl; kept = λ z e. e; put = λ k low. absurd (omega arith); only = λ z e. inl e }
 
-  pub filled_more : (i : ℕ) (table : List Bool) → item group i < length table → Filled group i before table → Filled group (i + 1) before (set table (item group i) true)
+  pub filled_more : (i : ℕ) (table : List Bool) → state_at group i < length table → Filled group i before table → Filled group (i + 1) before (set table (state_at group i) true)
   filled_more i table fits x = record {
-    long = length-set table (item group i) true ∙ x.long;
-    kept = λ z e. still table (item group i) z fits (x.kept z e);
-    put = λ k low. ⊎_elim (λ is. ap (λ (n : ℕ). at (set table (item group i) true) (item group n)) is ∙ at_same table (item group i) true fits) (λ ne. still table (item group i) _ fits (x.put k (omega (arith, ne)))) (cases_eq k i);
-    only = λ z e. ⊎_elim (λ is. inr (i, omega arith, sym is)) (λ ne. ⊎_elim (λ old. inl old) (λ h. inr (h.0, omega (arith, h.1), h.2)) (x.only z (sym (at_other table (item group i) z true ne) ∙ e))) (cases_eq z (item group i));
+    long = length-set table (state_at group i) true ∙ x.long;
+    kept = λ z e. still table (state_at group i) z fits (x.kept z e);
+    put = λ k low. ⊎_elim (λ is. ap (λ (n : ℕ). at (set table (state_at group i) true) (state_at group n)) is ∙ at_same table (state_at group i) true fits) (λ ne. still table (state_at group i) _ fits (x.put k (omega (arith, ne)))) (cases_eq k i);
+    only = λ z e. ⊎_elim (λ is. inr (i, omega arith, sym is)) (λ ne. ⊎_elim (λ old. inl old) (λ h. inr (h.0, omega (arith, h.1), h.2)) (x.only z (sym (at_other table (state_at group i) z true ne) ∙ e))) (cases_eq z (state_at group i));
   }
 
-module _ (group : List ℕ) (from : Option ℕ) (before : List Bool) where
+module _ (group : List Stop) (parent : Option ℕ) (before : List Bool) where
   -- None of them was in the table.
-  pub shared_none : ((k : ℕ) → k < length group → at before (item group k) ≡ true → ⊥) → Shared group from before before
+  pub shared_none : ((k : ℕ) → k < length group → at before (state_at group k) ≡ true → ⊥) → Shared group parent before before
   shared_none none = record {
     long = refl;
     kept = λ z e. e;
@@ -46,7 +47,7 @@ module _ (group : List ℕ) (from : Option ℕ) (before : List Bool) where
 
   module _ (some : SomeIn group before) (filled : List Bool) (x : Filled group (length group) before filled) where
     -- They were reached from none.
-    pub shared_alone : ((q : ℕ) → from ≡ Some q → ⊥) → Shared group from before filled
+    pub shared_alone : ((q : ℕ) → parent ≡ Some q → ⊥) → Shared group parent before filled
     shared_alone none = record {
       long = x.long;
       kept = x.kept;
@@ -55,7 +56,7 @@ module _ (group : List ℕ) (from : Option ℕ) (before : List Bool) where
       told = λ k q _ is _. absurd (none q is);
     }
 
-    pub shared_told : (q : ℕ) → from ≡ Some q → q < length filled → Shared group from before (set filled q true)
+    pub shared_told : (q : ℕ) → parent ≡ Some q → q < length filled → Shared group parent before (set filled q true)
     shared_told q is fits = record {
       long = length-set filled q true ∙ x.long;
       kept = λ z e. still filled q z fits (x.kept z e);

@@ -2,14 +2,15 @@
 //
 // Marks only grow, so states that lead to each other show the same marks, and a run can stay at the marks of a state
 // for ever exactly where the state leads back to itself. Each letter of each state is followed once.
-ghost use Rattle.std.specs.Prelude.{◌≡◌, ◌-◌, ◌<◌, true, false};
+ghost use Rattle.std.specs.Prelude.{◌≡◌, ◌≢◌, ◌<◌, true, false};
 ghost use Rattle.watch.specs.Letters.{letter_count};
 ghost use Rattle.outlook.specs.Outlooks.{at, Foresees};
-ghost use Rattle.outlook.specs.inner.Tables.{item};
-ghost use Rattle.outlook.specs.inner.Searching.{on, Searching, Stepped, Ran};
+ghost use Rattle.outlook.specs.inner.Memories.{standing, cursor};
+ghost use Rattle.outlook.specs.declared.search.Standing.TheVariants.{New};
+ghost use Rattle.outlook.specs.inner.Showing.{Goes, LookedAt, Stepped, Ran};
 
 use crate::chart::Outlook;
-use crate::search::Search;
+use crate::search::{Search, Standing};
 use crate::tables::MARK_SETS;
 use watch::Watcher;
 
@@ -36,76 +37,66 @@ impl<'a, W: Watcher> Drop for Guide<'a, W> {
 // would be no plainer: it holds ways along the letters, so it would be truncated, and each method would have to
 // promise that the watcher stays.
 impl<'a, W: Watcher> Guide<'a, W> {
-    // Follows the next letter of the state at the place that is looked at.
-    fn look(&self, search: &mut Search)
-        requires goes { Searching (W.watching self.now.watcher.now) self.now.good.now search.old }
-        requires some { 0 < search.old.here }
-        requires more { item search.old.cursor (on search.old (search.old.here - 1)) < self.now.letters }
+    // Follows the next letter of the state, which stands at the place that is looked at.
+    fn look(&self, search: &mut Search, state: u16)
+        requires goes { Goes (W.watching self.now.watcher.now) self.now.good.now search.old }
+        requires looked { LookedAt search.old state }
+        requires more { cursor search.old state < self.now.letters }
         ensures { Stepped (W.watching self.now.watcher.now) self.now.good.now search.old search.new }
     {
-        let place = search.here - 1;
-        let state = search.path[place as usize];
-        let letter = search.cursor[state as usize];
+        let letter = search.take_letter(state);
         let next = self.watcher.next(state, letter);
-        search.cursor[state as usize] = letter + 1;
-        if !search.seen[next as usize] {
-            search.push(next);
-            return;
+        match search.standing(next) {
+            Standing::New => search.push(next),
+            Standing::At(back) => {
+                let marks = self.watcher.shown(state);
+                search.note(state, self.good[usize::from(marks.bits)]);
+                search.join(back);
+            }
+            Standing::Gone => search.absorb(state, next),
         }
-        if search.stands(next) {
-            let back = search.place[next as usize];
-            let marks = self.watcher.shown(state);
-            search.note(state, self.good[marks.bits as usize]);
-            search.join(back);
-            return;
-        }
-        search.absorb(state, next);
     }
 
-    // One step: a letter more, or a place less.
-    fn step(&self, search: &mut Search)
-        requires goes { Searching (W.watching self.now.watcher.now) self.now.good.now search.old }
-        requires some { 0 < search.old.here }
+    // One step at the place that is looked at: a letter more, or a place less.
+    fn step(&self, search: &mut Search, place: u16)
+        requires goes { Goes (W.watching self.now.watcher.now) self.now.good.now search.old }
+        requires here { search.old.here ≡ Some place }
         ensures { Stepped (W.watching self.now.watcher.now) self.now.good.now search.old search.new }
     {
-        let place = search.here - 1;
-        let state = search.path[place as usize];
-        if search.cursor[state as usize] < self.letters {
-            self.look(search);
-            return;
-        }
-        if search.bounds[search.groups as usize - 1] == place {
+        let stop = search.path[usize::from(place)];
+        if search.cursor(stop.state) < self.letters {
+            self.look(search, stop.state);
+        } else if search.opens(place) {
             search.leave(place);
-            return;
+        } else {
+            search.here = stop.from;
         }
-        search.here = search.resume[place as usize];
     }
 
     // Goes on until the path is empty.
     fn run(&self, search: &mut Search)
-        requires goes { Searching (W.watching self.now.watcher.now) self.now.good.now search.old }
-        ensures idle { search.new.here ≡ 0 }
+        requires goes { Goes (W.watching self.now.watcher.now) self.now.good.now search.old }
+        ensures idle { search.new.here ≡ None }
         ensures ran { Ran (W.watching self.now.watcher.now) self.now.good.now search.old search.new }
     {
-        while search.here > 0 {
-            self.step(search);
+        while let Some(place) = search.here {
+            self.step(search, place);
         }
     }
 
-    // Searches from the state, unless it was seen.
+    // Searches from the state, unless it was on the path before.
     fn visit(&self, search: &mut Search, state: u16)
-        requires goes { Searching (W.watching self.now.watcher.now) self.now.good.now search.old }
-        requires idle { search.old.here ≡ 0 }
+        requires goes { Goes (W.watching self.now.watcher.now) self.now.good.now search.old }
+        requires idle { search.old.here ≡ None }
         requires within { state < (W.watching self.now.watcher.now).states }
-        ensures idle { search.new.here ≡ 0 }
+        ensures idle { search.new.here ≡ None }
         ensures ran { Ran (W.watching self.now.watcher.now) self.now.good.now search.old search.new }
-        ensures seen { at search.new.seen state ≡ true }
+        ensures seen { standing search.new state ≢ New }
     {
-        if search.seen[state as usize] {
-            return;
+        if let Standing::New = search.standing(state) {
+            search.push(state);
+            self.run(search);
         }
-        search.push(state);
-        self.run(search);
     }
 }
 

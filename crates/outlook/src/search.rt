@@ -3,104 +3,142 @@
 // The search finds states that lead to each other. States that wait stand on a path, which is cut into groups:
 // the states of a group lead to each other. A letter that leads back into the path joins the groups from there on.
 // A group that no letter is left to join is done, and leaves the path. Nothing is on the heap.
-ghost use Rattle.std.specs.Prelude.{◌≡◌, ℕ, ◌+◌, ◌-◌, ◌<◌, ◌≤◌, Bool, true, false, List, slice_range};
+ghost use Rattle.std.specs.Prelude.{◌≡◌, ◌≢◌, ℕ, ◌-◌, ◌<◌, ◌≤◌, Bool, true, false, List, length};
+ghost use Rattle.std.specs.List.{All};
+ghost use Rattle.arrayvec.specs.ArrayVec.{array_vec_len};
 ghost use Rattle.watch.specs.Watchers.{Watching};
 ghost use Rattle.outlook.specs.inner.Tables.{item};
-ghost use Rattle.outlook.specs.inner.Searching.{on, bound, Held, Searching, pushed, noted, absorbed, Joined, Left};
+ghost use Rattle.outlook.specs.inner.Showing.{Goes};
+ghost use Rattle.outlook.specs.inner.Memories.{stop, standing, cursor, after_letter, after_push, after_note, after_absorb, Dismissed, Joined, Left};
 
 use crate::tables::{MOST_STATES, share};
+use arrayvec::ArrayVec;
+
+// How a state stands to the path.
+#[derive(Clone, Copy)]
+pub(crate) enum Standing {
+    // It was never on it.
+    New,
+    // It is at this place.
+    At(u16),
+    // It was on it, and left.
+    Gone,
+}
+
+// What the search has of a state: how it stands to the path, and its next letter.
+#[derive(Clone, Copy)]
+pub(crate) struct Seat {
+    pub(crate) standing: Standing,
+    pub(crate) cursor: u16,
+}
+
+impl Seat {
+    const FREE: Seat = Seat {
+        standing: Standing::New,
+        cursor: 0,
+    };
+}
+
+// A state on the path, and the place that was looked at when it came.
+#[derive(Clone, Copy, Default)]
+pub(crate) struct Stop {
+    pub(crate) state: u16,
+    pub(crate) from: Option<u16>,
+}
 
 #[derive(Drop)]
-pub struct Search {
+pub(crate) struct Search {
     // The states that are known to come to rest at marks that are good, and at marks that are not.
     pub(crate) keepable: [bool; MOST_STATES],
     pub(crate) breakable: [bool; MOST_STATES],
-    // The states that were on the path at some time.
-    pub(crate) seen: [bool; MOST_STATES],
-    // The next letter of a state.
-    pub(crate) cursor: [u16; MOST_STATES],
-    // The path, and the place of a state on it.
-    pub(crate) path: [u16; MOST_STATES],
-    pub(crate) place: [u16; MOST_STATES],
-    // What `here` was when a place was taken.
-    pub(crate) resume: [u16; MOST_STATES],
+    pub(crate) seats: [Seat; MOST_STATES],
+    pub(crate) path: ArrayVec<Stop, MOST_STATES>,
     // The first place of each group.
-    pub(crate) bounds: [u16; MOST_STATES],
-    // How many states are on the path, and in how many groups.
-    pub(crate) depth: u16,
-    pub(crate) groups: u16,
-    // One more than the place that is looked at. It is in the last group, and the states after it have no letter left.
-    pub(crate) here: u16,
+    pub(crate) bounds: ArrayVec<u16, MOST_STATES>,
+    // The place that is looked at. It is in the last group, and the states after it have no letter left.
+    pub(crate) here: Option<u16>,
 }
 
-// The states at the places from `from` to before `to`.
-fn part(path: &[u16; MOST_STATES], from: u16, to: u16) -> &[u16]
-    requires order { from ≤ to }
-    requires room { to ≤ 16384 }
-    ensures { result.now ≡ slice_range path.now from to }
+// The states of the group are gone.
+fn dismiss(seats: &mut [Seat; MOST_STATES], group: &[Stop])
+    requires { All (λ s. s.state < 16384) group.now }
+    ensures { Dismissed group.now (length group.now) seats.old seats.new }
 {
-    &path[from as usize..to as usize]
+    for stop in group {
+        seats[usize::from(stop.state)].standing = Standing::Gone;
+    }
 }
 
 impl Search {
     // A search with nothing on its path.
     pub(crate) fn begin() -> Search
-        ensures idle { result.here ≡ 0 }
-        ensures goes { (w : Watching) (good : List Bool) → Searching w good result }
+        ensures idle { result.here ≡ None }
+        ensures goes { (w : Watching) (good : List Bool) → Goes w good result }
     {
         Search {
             keepable: [false; MOST_STATES],
             breakable: [false; MOST_STATES],
-            seen: [false; MOST_STATES],
-            cursor: [0; MOST_STATES],
-            path: [0; MOST_STATES],
-            place: [0; MOST_STATES],
-            resume: [0; MOST_STATES],
-            bounds: [0; MOST_STATES],
-            depth: 0,
-            groups: 0,
-            here: 0,
+            seats: [Seat::FREE; MOST_STATES],
+            path: ArrayVec::new(),
+            bounds: ArrayVec::new(),
+            here: None,
         }
+    }
+
+    // How the state stands to the path.
+    pub(crate) fn standing(&self, state: u16) -> Standing
+        requires { state < 16384 }
+        ensures { result ≡ standing self.now state }
+    {
+        self.seats[usize::from(state)].standing
+    }
+
+    // The next letter of the state.
+    pub(crate) fn cursor(&self, state: u16) -> u16
+        requires { state < 16384 }
+        ensures { result ≡ cursor self.now state }
+    {
+        self.seats[usize::from(state)].cursor
+    }
+
+    // Takes the next letter of the state.
+    pub(crate) fn take_letter(&mut self, state: u16) -> u16
+        requires within { state < 16384 }
+        requires few { cursor self.old state < 243 }
+        ensures letter { result ≡ cursor self.old state }
+        ensures after { self.new ≡ after_letter self.old state }
+    {
+        let letter = self.cursor(state);
+        self.seats[usize::from(state)].cursor = letter + 1;
+        letter
     }
 
     // Puts a state on the end of the path, in a group of its own.
     pub(crate) fn push(&mut self, state: u16)
-        requires room { self.old.depth < 16384 }
-        requires few { self.old.groups ≤ self.old.depth }
+        requires room { array_vec_len self.old.path < 16384 }
+        requires few { array_vec_len self.old.bounds < 16384 }
         requires within { state < 16384 }
-        ensures { self.new ≡ pushed self.old state }
+        ensures { self.new ≡ after_push self.old state }
     {
-        let end = self.depth;
-        self.seen[state as usize] = true;
-        self.path[end as usize] = state;
-        self.place[state as usize] = end;
-        self.resume[end as usize] = self.here;
-        self.bounds[self.groups as usize] = end;
-        self.groups += 1;
-        self.depth = end + 1;
-        self.here = end + 1;
-    }
-
-    // Whether the state stands on the path. Leaving the path writes no place, so the path is asked as well.
-    pub(crate) fn stands(&self, state: u16) -> bool
-        requires within { state < 16384 }
-        requires room { self.now.depth ≤ 16384 }
-        ensures there { result ≡ true → Held self.now (item self.now.place state) state }
-        ensures away { result ≡ false → Held self.now (item self.now.place state) state → ⊥ }
-    {
-        let place = self.place[state as usize];
-        place < self.depth && self.path[place as usize] == state
+        let end = self.path.len() as u16;
+        self.seats[usize::from(state)].standing = Standing::At(end);
+        self.path.push(Stop {
+            state,
+            from: self.here,
+        });
+        self.bounds.push(end);
+        self.here = Some(end);
     }
 
     // The state can come to rest at its own marks, which are good or not.
     pub(crate) fn note(&mut self, state: u16, good: bool)
         requires { state < 16384 }
-        ensures { self.new ≡ noted self.old state good }
+        ensures { self.new ≡ after_note self.old state good }
     {
         if good {
-            self.keepable[state as usize] = true;
+            self.keepable[usize::from(state)] = true;
         } else {
-            self.breakable[state as usize] = true;
+            self.breakable[usize::from(state)] = true;
         }
     }
 
@@ -108,46 +146,50 @@ impl Search {
     pub(crate) fn absorb(&mut self, state: u16, other: u16)
         requires state { state < 16384 }
         requires other { other < 16384 }
-        ensures { self.new ≡ absorbed self.old state other }
+        ensures { self.new ≡ after_absorb self.old state other }
     {
-        self.keepable[state as usize] |= self.keepable[other as usize];
-        self.breakable[state as usize] |= self.breakable[other as usize];
+        self.keepable[usize::from(state)] |= self.keepable[usize::from(other)];
+        self.breakable[usize::from(state)] |= self.breakable[usize::from(other)];
+    }
+
+    // Whether the last group begins at the place.
+    pub(crate) fn opens(&self, place: u16) -> bool
+        requires { 0 < length self.now.bounds.items }
+        ensures yes { result ≡ true → item self.now.bounds.items (length self.now.bounds.items - 1) ≡ place }
+        ensures no { result ≡ false → item self.now.bounds.items (length self.now.bounds.items - 1) ≢ place }
+    {
+        self.bounds.last().is_some_and(|bound| *bound == place)
     }
 
     // Joins the groups that begin after the place to the one that has it.
     pub(crate) fn join(&mut self, place: u16)
-        requires some { 0 < self.old.groups }
-        requires few { self.old.groups ≤ 16384 }
-        requires first { bound self.old 0 ≡ 0 }
         ensures joined { Joined self.old place self.new }
-        ensures done { bound self.old (self.new.groups - 1) ≤ place }
+        ensures until { 0 < length self.new.bounds.items → item self.new.bounds.items (length self.new.bounds.items - 1) ≤ place }
     {
-        while self.bounds[self.groups as usize - 1] > place {
-            self.groups -= 1;
+        while self.bounds.last().is_some_and(|bound| *bound > place) {
+            self.bounds.pop();
         }
     }
 
     // Takes the last group off the path. All its states can come to what one of them can come to, and so can
     // the state at the place that the group was taken from.
     pub(crate) fn leave(&mut self, first: u16)
-        requires under { first < self.old.depth }
-        requires room { self.old.depth ≤ 16384 }
-        requires some { 0 < self.old.groups }
-        requires back { item self.old.resume first ≤ first }
-        requires within { (k : ℕ) → k < self.old.depth → on self.old k < 16384 }
+        requires under { first < array_vec_len self.old.path }
+        requires back { (p : ℕ) → (stop self.old first).from ≡ Some p → p < array_vec_len self.old.path }
+        requires within { All (λ s. s.state < 16384) self.old.path.items }
         ensures { Left self.old first self.new }
     {
-        let resume = self.resume[first as usize];
-        let from = if resume == 0 {
-            None
-        } else {
-            Some(self.path[resume as usize - 1])
+        let from = self.path[usize::from(first)].from;
+        let parent = match from {
+            Some(place) => Some(self.path[usize::from(place)].state),
+            None => None,
         };
-        let group = part(&self.path, first, self.depth);
-        share(&mut self.keepable, group, from);
-        share(&mut self.breakable, group, from);
-        self.depth = first;
-        self.groups -= 1;
-        self.here = resume;
+        let group = &self.path[usize::from(first)..];
+        share(&mut self.keepable, group, parent);
+        share(&mut self.breakable, group, parent);
+        dismiss(&mut self.seats, group);
+        self.path.truncate(usize::from(first));
+        self.bounds.pop();
+        self.here = from;
     }
 }

@@ -4,6 +4,8 @@ ghost use Rattle.std.specs.List.{All, list_any};
 ghost use Rattle.outlook.specs.Outlooks.{at};
 ghost use Rattle.outlook.specs.inner.Tables.{Filled, Shared};
 
+use crate::search::Stop;
+
 // The most states that a watcher can have. A table has a place for each.
 pub const MOST_STATES: usize = watch::MOST_STATES as usize;
 
@@ -11,35 +13,35 @@ pub const MOST_STATES: usize = watch::MOST_STATES as usize;
 pub const MARK_SETS: usize = 256;
 
 // Whether one of the states is in the table.
-fn any(table: &[bool; MOST_STATES], group: &[u16]) -> bool
-    requires { All (λ s. s < 16384) group.now }
-    ensures { result ≡ list_any (at table.now) group.now }
+fn any(table: &[bool; MOST_STATES], group: &[Stop]) -> bool
+    requires { All (λ s. s.state < 16384) group.now }
+    ensures { result ≡ list_any (λ s. at table.now s.state) group.now }
 {
-    group.iter().any(|state| table[usize::from(*state)])
+    group.iter().any(|stop| table[usize::from(stop.state)])
 }
 
 // Puts the states into the table.
-fn fill(table: &mut [bool; MOST_STATES], group: &[u16])
-    requires { All (λ s. s < 16384) group.now }
+fn fill(table: &mut [bool; MOST_STATES], group: &[Stop])
+    requires { All (λ s. s.state < 16384) group.now }
     ensures { Filled group.now (length group.now) table.old table.new }
 {
-    for state in group {
-        table[usize::from(*state)] = true;
+    for stop in group {
+        table[usize::from(stop.state)] = true;
     }
 }
 
 // Where one of the states is in the table, puts all of them in, and with them the one that they were reached from,
 // if there is one.
-pub(crate) fn share(table: &mut [bool; MOST_STATES], group: &[u16], from: Option<u16>)
-    requires group { All (λ s. s < 16384) group.now }
-    requires from { (s : ℕ) → from ≡ Some s → s < 16384 }
-    ensures { Shared group.now from table.old table.new }
+pub(crate) fn share(table: &mut [bool; MOST_STATES], group: &[Stop], parent: Option<u16>)
+    requires group { All (λ s. s.state < 16384) group.now }
+    requires parent { (s : ℕ) → parent ≡ Some s → s < 16384 }
+    ensures { Shared group.now parent table.old table.new }
 {
     if !any(table, group) {
         return;
     }
     fill(table, group);
-    if let Some(state) = from {
+    if let Some(state) = parent {
         table[usize::from(state)] = true;
     }
 }

@@ -1,5 +1,5 @@
 use Rattle.outlook.specs.inner.Tables.{Filled}
 use Rattle.outlook.proofs.tables.fill.Given as goal
 
-abbrev pub invariant-loop-state : goal.invariant-loop-state
-invariant-loop-state l = Filled l.group l.state-index l.initial.table l.table
+abbrev pub invariant-loop-stop : goal.invariant-loop-stop
+invariant-loop-stop l = Filled l.group l.stop-index l.initial.table l.table

@@ -1,113 +1,92 @@
-use Rattle.std.proofs.Common.{◌≡◌, ℕ, ◌+◌, ◌-◌, ◌<◌, sym, ap, ◌∙◌, subst, arith, rules}
-use Rattle.outlook.specs.Outlooks.{at}
-use Rattle.outlook.specs.inner.Tables.{item}
-use Rattle.outlook.specs.inner.Searching.{on, bound, Held, Gone, Stepped, pushed, noted, absorbed, moved}
+use Rattle.std.proofs.Common.{◌≡◌, ◌<◌, length, sym, ap, ◌∙◌, subst, arith}
+use Rattle.watch.specs.Letters.{letter_count}
+use Rattle.outlook.specs.Outlooks.{at as says}
+use Rattle.outlook.specs.inner.Memories.{standing, cursor, after_letter, after_push, after_note, after_absorb, Joined}
+use Rattle.outlook.specs.inner.Showing.{Stepped}
 use Rattle.outlook.specs.declared.search.Search.{Search}
-use Rattle.outlook.proofs.Basics.{depth_fits, groups_le, room_left}
 use Rattle.outlook.proofs.Beginning.{few_letters}
-use Rattle.outlook.proofs.Stepping.{place_fits, state_fits, step_new, step_gone, step_held}
+use Rattle.outlook.proofs.Steps.{new_room, new_step, gone_step, held_step}
 use Rattle.outlook.proofs.looking.Guide.look.Goals as goal
 
-pub bounds-search-place : goal.bounds-search-place
-bounds-search-place g c =
+pub take_letter-letter-requires-clause-few : goal.take_letter-letter-requires-clause-few
+take_letter-letter-requires-clause-few g c =
     let w = g.W.Watcher.watching c.args.self.now.watcher.now in
     let law = g.met.W.Watcher.lawful c.args.self.now.watcher.now in
-    place_fits w law c.args.self.now.good.now c.args.search.now c.requires.goes _ (omega (arith, c.requires.some))
+    omega (arith, c.requires.more, c.args.self.now.all, few_letters w law)
 
-pub overflow_add-search : goal.overflow_add-search
-overflow_add-search g c =
+pub push-requires-clause-room : goal.push-requires-clause-room
+push-requires-clause-room g c =
     let w = g.W.Watcher.watching c.args.self.now.watcher.now in
     let law = g.met.W.Watcher.lawful c.args.self.now.watcher.now in
-    let x = c.args.search.now in
-    let few : item x.cursor (on x (x.here - 1)) < 243 = omega (arith, c.requires.more, c.args.self.now.all, few_letters w law) in
-    search rules
-
-pub bounds-search-next : goal.bounds-search-next
-bounds-search-next g c =
-    let law = g.met.W.Watcher.lawful c.args.self.now.watcher.now in
-    let x = c.args.search.now in
-    let s : ℕ = on x (x.here - 1) in
-    omega (arith, c.next-next.ensures, law.next_within s (item x.cursor s), law.few_states)
-
-pub push-requires : goal.push-requires
-push-requires g c =
-    let w = g.W.Watcher.watching c.args.self.now.watcher.now in
-    let law = g.met.W.Watcher.lawful c.args.self.now.watcher.now in
-    let x = c.args.search.now in
-    let s : ℕ = on x (x.here - 1) in
-    let within = law.next_within s (item x.cursor s) in
-    record {
-      room = room_left w law c.args.self.now.good.now x c.requires.goes c.next-next.result (omega (arith, c.next-next.ensures, within)) c.if-not-search-next.true;
-      few = groups_le w law c.args.self.now.good.now x c.requires.goes;
-      within = omega (arith, c.next-next.ensures, within, law.few_states);
-    }
-
-pub returns-then-not-search-next : goal.returns-then-not-search-next
-returns-then-not-search-next g c =
-    let w = g.W.Watcher.watching c.args.self.now.watcher.now in
-    let law = g.met.W.Watcher.lawful c.args.self.now.watcher.now in
-    let x = c.args.search.now in
     let good = c.args.self.now.good.now in
-    let s : ℕ = on x (x.here - 1) in
-    let n : ℕ = item x.cursor s + 1 in
-    subst (λ (z : Search). Stepped w good x z) (sym (c.push.ensures ∙ ap (λ (u : ℕ). moved (pushed x u) s n) c.next-next.ensures)) (step_new w law good x c.requires.goes (x.here - 1) (omega (arith, c.requires.some)) (omega (arith, c.requires.more, c.args.self.now.all)) (ap (at x.seen) (sym c.next-next.ensures) ∙ c.if-not-search-next.true))
+    let x = c.args.search.now in
+    let h = c.requires.goes in
+    let s = c.args.state in
+    let at = c.requires.looked in
+    let after = c.take_letter-letter.ensures.after in
+    let leads : c.next-next.result ≡ w.next s (cursor x s) = c.next-next.ensures ∙ ap (w.next s) c.take_letter-letter.ensures.letter in
+    let now : standing (after_letter x s) c.next-next.result ≡ c.standing.result = ap (λ (z : Search). standing z c.next-next.result) (sym after) ∙ sym c.standing.ensures in
+    let more : cursor x s < letter_count w.events = omega (arith, c.requires.more, c.args.self.now.all) in
+    omega (arith, ap (λ (z : Search). length z.path.items) after, (new_room w law good x h.0 h.1 h.2 at.0 at.1 s at.2 more c.next-next.result leads (now ∙ c.in-New.is)).0)
 
-pub stands-requires : goal.stands-requires
-stands-requires g c =
+pub push-requires-clause-few : goal.push-requires-clause-few
+push-requires-clause-few g c =
     let w = g.W.Watcher.watching c.args.self.now.watcher.now in
     let law = g.met.W.Watcher.lawful c.args.self.now.watcher.now in
-    let x = c.args.search.now in
-    let s : ℕ = on x (x.here - 1) in
-    record {
-      within = omega (arith, c.next-next.ensures, law.next_within s (item x.cursor s), law.few_states);
-      room = depth_fits w law c.args.self.now.good.now x c.requires.goes;
-    }
-
-pub join-requires : goal.join-requires
-join-requires g c =
-    let w = g.W.Watcher.watching c.args.self.now.watcher.now in
-    let law = g.met.W.Watcher.lawful c.args.self.now.watcher.now in
-    let x = c.args.search.now in
     let good = c.args.self.now.good.now in
-    let count : c.note.new.self.groups ≡ x.groups = ap (λ (z : Search). z.groups) c.note.ensures in
-    let first = c.requires.goes.first (omega (arith, c.requires.some, c.requires.goes.top)) in
-    record {
-      some = omega (arith, count, first.0);
-      few = omega (arith, count, groups_le w law good x c.requires.goes, depth_fits w law good x c.requires.goes);
-      first = ap (λ (z : Search). bound z 0) c.note.ensures ∙ first.1;
-    }
+    let x = c.args.search.now in
+    let h = c.requires.goes in
+    let s = c.args.state in
+    let at = c.requires.looked in
+    let after = c.take_letter-letter.ensures.after in
+    let leads : c.next-next.result ≡ w.next s (cursor x s) = c.next-next.ensures ∙ ap (w.next s) c.take_letter-letter.ensures.letter in
+    let now : standing (after_letter x s) c.next-next.result ≡ c.standing.result = ap (λ (z : Search). standing z c.next-next.result) (sym after) ∙ sym c.standing.ensures in
+    let more : cursor x s < letter_count w.events = omega (arith, c.requires.more, c.args.self.now.all) in
+    omega (arith, ap (λ (z : Search). length z.bounds.items) after, (new_room w law good x h.0 h.1 h.2 at.0 at.1 s at.2 more c.next-next.result leads (now ∙ c.in-New.is)).1)
 
-pub returns-then-stands : goal.returns-then-stands
-returns-then-stands g c =
+pub returns-in-New : goal.returns-in-New
+returns-in-New g c =
     let w = g.W.Watcher.watching c.args.self.now.watcher.now in
     let law = g.met.W.Watcher.lawful c.args.self.now.watcher.now in
-    let x = c.args.search.now in
     let good = c.args.self.now.good.now in
-    let s : ℕ = on x (x.here - 1) in
-    let n : ℕ = item x.cursor s + 1 in
-    let k : ℕ = item x.place c.next-next.result in
-    let held : Held x k (w.next s (item x.cursor s)) = subst (Held x k) c.next-next.ensures (c.stands.ensures.there c.if-stands.true) in
-    step_held w law good x c.requires.goes (x.here - 1) (omega (arith, c.requires.some)) (omega (arith, c.requires.more, c.args.self.now.all)) k held c.note.new.self c.join.new.self (c.note.ensures ∙ ap (λ (m : ℕ). noted (moved x s n) s (at good m)) c.shown-marks.ensures) c.join.ensures.joined c.join.ensures.done
+    let x = c.args.search.now in
+    let h = c.requires.goes in
+    let s = c.args.state in
+    let at = c.requires.looked in
+    let after = c.take_letter-letter.ensures.after in
+    let leads : c.next-next.result ≡ w.next s (cursor x s) = c.next-next.ensures ∙ ap (w.next s) c.take_letter-letter.ensures.letter in
+    let now : standing (after_letter x s) c.next-next.result ≡ c.standing.result = ap (λ (z : Search). standing z c.next-next.result) (sym after) ∙ sym c.standing.ensures in
+    let more : cursor x s < letter_count w.events = omega (arith, c.requires.more, c.args.self.now.all) in
+    subst (Stepped w good x) (sym (c.push.ensures ∙ ap (λ (z : Search). after_push z c.next-next.result) after)) (new_step w law good x h.0 h.1 h.2 at.0 at.1 s at.2 more c.next-next.result leads (now ∙ c.in-New.is))
 
-pub absorb-requires : goal.absorb-requires
-absorb-requires g c =
+pub returns-in-At : goal.returns-in-At
+returns-in-At g c =
     let w = g.W.Watcher.watching c.args.self.now.watcher.now in
     let law = g.met.W.Watcher.lawful c.args.self.now.watcher.now in
-    let x = c.args.search.now in
-    let s : ℕ = on x (x.here - 1) in
-    record {
-      state = state_fits w law c.args.self.now.good.now x c.requires.goes (x.here - 1) (omega (arith, c.requires.some));
-      other = omega (arith, c.next-next.ensures, law.next_within s (item x.cursor s), law.few_states);
-    }
-
-pub returns : goal.returns
-returns g c =
-    let w = g.W.Watcher.watching c.args.self.now.watcher.now in
-    let law = g.met.W.Watcher.lawful c.args.self.now.watcher.now in
-    let x = c.args.search.now in
     let good = c.args.self.now.good.now in
-    let s : ℕ = on x (x.here - 1) in
-    let n : ℕ = item x.cursor s + 1 in
-    let r : ℕ = c.next-next.result in
-    let gone : Gone x r = (c.if-not-search-next.false, λ k h. c.stands.ensures.away c.if-stands.false (subst (λ (m : ℕ). Held x m r) (sym (ap (item x.place) (sym h.1) ∙ c.requires.goes.placed k h.0)) h)) in
-    subst (λ (z : Search). Stepped w good x z) (sym (c.absorb.ensures ∙ ap (λ (u : ℕ). absorbed (moved x s n) s u) c.next-next.ensures)) (step_gone w law good x c.requires.goes (x.here - 1) (omega (arith, c.requires.some)) (omega (arith, c.requires.more, c.args.self.now.all)) (subst (Gone x) c.next-next.ensures gone))
+    let x = c.args.search.now in
+    let h = c.requires.goes in
+    let s = c.args.state in
+    let at = c.requires.looked in
+    let after = c.take_letter-letter.ensures.after in
+    let leads : c.next-next.result ≡ w.next s (cursor x s) = c.next-next.ensures ∙ ap (w.next s) c.take_letter-letter.ensures.letter in
+    let now : standing (after_letter x s) c.next-next.result ≡ c.standing.result = ap (λ (z : Search). standing z c.next-next.result) (sym after) ∙ sym c.standing.ensures in
+    let more : cursor x s < letter_count w.events = omega (arith, c.requires.more, c.args.self.now.all) in
+    let marks = c.from.ensures ∙ c.shown-marks.ensures in
+    let noted = c.note.ensures ∙ (λ i. after_note (after i) s (says good (marks i))) in
+    held_step w law good x h.0 h.1 h.2 at.0 at.1 s at.2 more c.next-next.result leads c.in-At.back (now ∙ c.in-At.is) c.join.new.self (subst (λ (z : Search). Joined z c.in-At.back c.join.new.self) noted c.join.ensures.joined) c.join.ensures.until
+
+pub returns-in-Gone : goal.returns-in-Gone
+returns-in-Gone g c =
+    let w = g.W.Watcher.watching c.args.self.now.watcher.now in
+    let law = g.met.W.Watcher.lawful c.args.self.now.watcher.now in
+    let good = c.args.self.now.good.now in
+    let x = c.args.search.now in
+    let h = c.requires.goes in
+    let s = c.args.state in
+    let at = c.requires.looked in
+    let after = c.take_letter-letter.ensures.after in
+    let leads : c.next-next.result ≡ w.next s (cursor x s) = c.next-next.ensures ∙ ap (w.next s) c.take_letter-letter.ensures.letter in
+    let now : standing (after_letter x s) c.next-next.result ≡ c.standing.result = ap (λ (z : Search). standing z c.next-next.result) (sym after) ∙ sym c.standing.ensures in
+    let more : cursor x s < letter_count w.events = omega (arith, c.requires.more, c.args.self.now.all) in
+    subst (Stepped w good x) (sym (c.absorb.ensures ∙ ap (λ (z : Search). after_absorb z s c.next-next.result) after)) (gone_step w law good x h.0 h.1 h.2 at.0 at.1 s at.2 more c.next-next.result leads (now ∙ c.in-Gone.is))

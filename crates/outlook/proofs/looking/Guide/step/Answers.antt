@@ -1,51 +1,48 @@
-use Rattle.std.proofs.Common.{◌-◌, arith}
-use Rattle.outlook.proofs.Basics.{depth_fits, groups_le}
-use Rattle.outlook.proofs.Stepping.{place_fits, step_back, step_leave}
+use Rattle.std.proofs.Common.{◌≡◌, ◌≤◌, sym, ap, subst, arith}
+use Rattle.watch.specs.Letters.{letter_count}
+use Rattle.outlook.specs.inner.Tables.{stop_at}
+use Rattle.outlook.specs.inner.Memories.{stop, cursor}
+use Rattle.outlook.specs.inner.Showing.{Stepped}
+use Rattle.outlook.specs.declared.search.Stop.{Stop}
+use Rattle.outlook.proofs.Steps.{some_bound, states_fit, leave_step, back_step}
 use Rattle.outlook.proofs.looking.Guide.step.Goals as goal
 
-pub bounds-search-place : goal.bounds-search-place
-bounds-search-place g c =
+pub opens-requires : goal.opens-requires
+opens-requires g c =
     let w = g.W.Watcher.watching c.args.self.now.watcher.now in
     let law = g.met.W.Watcher.lawful c.args.self.now.watcher.now in
-    place_fits w law c.args.self.now.good.now c.args.search.now c.requires.goes _ (omega (arith, c.requires.some))
-
-pub bounds-search-search : goal.bounds-search-search
-bounds-search-search g c =
-    let w = g.W.Watcher.watching c.args.self.now.watcher.now in
-    let law = g.met.W.Watcher.lawful c.args.self.now.watcher.now in
+    let good = c.args.self.now.good.now in
     let x = c.args.search.now in
-    omega (arith, groups_le w law c.args.self.now.good.now x c.requires.goes, depth_fits w law c.args.self.now.good.now x c.requires.goes)
+    let h = c.requires.goes in
+    some_bound w law good x h.0 h.1 h.2 c.args.place c.requires.here
 
-pub leave-requires : goal.leave-requires
-leave-requires g c =
+pub leave-requires-clause-within : goal.leave-requires-clause-within
+leave-requires-clause-within g c =
     let w = g.W.Watcher.watching c.args.self.now.watcher.now in
     let law = g.met.W.Watcher.lawful c.args.self.now.watcher.now in
+    let good = c.args.self.now.good.now in
     let x = c.args.search.now in
-    let ok = c.requires.goes in
-    record {
-      under = omega (arith, c.requires.some, ok.top);
-      room = depth_fits w law c.args.self.now.good.now x ok;
-      some = (ok.first (omega (arith, c.requires.some, ok.top))).0;
-      back = ok.resume_le _ (omega (arith, c.requires.some, ok.top));
-      within = λ k lt. omega (arith, ok.within k lt, law.few_states);
-    }
+    let h = c.requires.goes in
+    states_fit w law good x h.0 h.1 h.2
 
-pub returns-then-search-place : goal.returns-then-search-place
-returns-then-search-place g c =
+pub returns-then-opens : goal.returns-then-opens
+returns-then-opens g c =
     let w = g.W.Watcher.watching c.args.self.now.watcher.now in
     let law = g.met.W.Watcher.lawful c.args.self.now.watcher.now in
+    let good = c.args.self.now.good.now in
     let x = c.args.search.now in
-    step_leave w law c.args.self.now.good.now x c.requires.goes (x.here - 1) (omega (arith, c.requires.some)) c.leave.new.self c.leave.ensures c.if-search-place.true (omega (arith, c.args.self.now.all, c.if-search-state.false))
+    let h = c.requires.goes in
+    let same : stop_at c.deref.result.now c.from.result ≡ stop x c.args.place = λ i. stop_at (c.deref.ensures.0 i) (c.from.ensures i) in
+    let done : letter_count w.events ≤ cursor x (stop x c.args.place).state = omega (arith, c.if-cursor-self.false, c.args.self.now.all, c.cursor.ensures, ap (λ (z : Stop). cursor x z.state) same) in
+    leave_step w law good x h.0 h.1 h.2 c.args.place c.requires.here c.leave.new.self c.leave.ensures (c.opens.ensures.yes c.if-opens.true) done
 
-pub bounds-search-place-2 : goal.bounds-search-place-2
-bounds-search-place-2 g c =
+pub returns-else-opens : goal.returns-else-opens
+returns-else-opens g c =
     let w = g.W.Watcher.watching c.args.self.now.watcher.now in
     let law = g.met.W.Watcher.lawful c.args.self.now.watcher.now in
-    place_fits w law c.args.self.now.good.now c.args.search.now c.requires.goes _ (omega (arith, c.requires.some))
-
-pub returns : goal.returns
-returns g c =
-    let w = g.W.Watcher.watching c.args.self.now.watcher.now in
-    let law = g.met.W.Watcher.lawful c.args.self.now.watcher.now in
+    let good = c.args.self.now.good.now in
     let x = c.args.search.now in
-    step_back w law c.args.self.now.good.now x c.requires.goes (x.here - 1) (omega (arith, c.requires.some)) c.if-search-place.false (omega (arith, c.args.self.now.all, c.if-search-state.false))
+    let h = c.requires.goes in
+    let same : stop_at c.deref.result.now c.from.result ≡ stop x c.args.place = λ i. stop_at (c.deref.ensures.0 i) (c.from.ensures i) in
+    let done : letter_count w.events ≤ cursor x (stop x c.args.place).state = omega (arith, c.if-cursor-self.false, c.args.self.now.all, c.cursor.ensures, ap (λ (z : Stop). cursor x z.state) same) in
+    subst (Stepped w good x) (λ i. record { keepable = x.keepable; breakable = x.breakable; seats = x.seats; path = x.path; bounds = x.bounds; here = (sym same i).from }) (back_step w law good x h.0 h.1 h.2 c.args.place c.requires.here (c.opens.ensures.no c.if-opens.false) done)
