@@ -13,6 +13,7 @@ use Rattle.outlook.specs.inner.Memories.{free, seat_at, stop, standing, cursor, 
 use Rattle.outlook.specs.inner.Searching.{Memory, on, Held, Sized, Searching, Handed, Onward, pushed, advanced, learned, noted, absorbed, stood, left}
 use Rattle.outlook.specs.inner.Searching.{Gone as IsGone}
 use Rattle.outlook.specs.inner.Showing.{upto, cursors, Shows, todo, Stepped}
+use Rattle.outlook.specs.declared.state.State.{State}
 use Rattle.outlook.specs.declared.search.Standing.{Standing}
 use Rattle.outlook.specs.declared.search.Standing.TheVariants.{New, At, Gone}
 use Rattle.outlook.specs.declared.search.Seat.{Seat}
@@ -159,24 +160,24 @@ module _ (x : Search) (m : Memory) (sh : Shows x m) where
     gone = sh.gone;
   }
 
-  module _ (sized : Sized m) (u : ℕ) (fits : u < 16384) (new : at m.seen u ≡ false) (space : m.depth < 16384) (few : m.groups < 16384) where
+  module _ (sized : Sized m) (u : State) (new : at m.seen u.number ≡ false) (space : m.depth < 16384) (few : m.groups < 16384) where
     abbrev d : ℕ
     d = length x.path.items
 
     abbrev v : Seat
-    v = record { standing = At (length x.path.items); cursor = cursor x u }
+    v = record { standing = At (length x.path.items); cursor = cursor x u.number }
 
     abbrev n : Memory
-    n = pushed m u
+    n = pushed m u.number
 
-    in_seats : u < length x.seats
-    in_seats = omega (arith, fits, sized.cursor, ap (λ (c : List ℕ). length c) sh.cursor, length-map x.seats (λ (y : Seat). y.cursor))
+    in_seats : u.number < length x.seats
+    in_seats = omega (arith, u.within, sized.cursor, ap (λ (c : List ℕ). length c) sh.cursor, length-map x.seats (λ (y : Seat). y.cursor))
 
-    here_is : (z : ℕ) → z ≡ u → standing (after_push x u) z ≡ At (length x.path.items)
-    here_is z is = ap (standing (after_push x u)) is ∙ ap (λ (y : Seat). y.standing) (seat_same x.seats u v in_seats)
+    here_is : (z : ℕ) → z ≡ u.number → standing (after_push x u) z ≡ At (length x.path.items)
+    here_is z is = ap (standing (after_push x u)) is ∙ ap (λ (y : Seat). y.standing) (seat_same x.seats u.number v in_seats)
 
-    away : (z : ℕ) → (z ≡ u → ⊥) → standing (after_push x u) z ≡ standing x z
-    away z ne = ap (λ (y : Seat). y.standing) (seat_other x.seats u z v ne)
+    away : (z : ℕ) → (z ≡ u.number → ⊥) → standing (after_push x u) z ≡ standing x z
+    away z ne = ap (λ (y : Seat). y.standing) (seat_other x.seats u.number z v ne)
 
     stop_old : (j : ℕ) → j < m.depth → stop (after_push x u) j ≡ stop x j
     stop_old j lt = get_or_append_left x.path.items (record { state = u; from = x.here } ∷ []) no_stop j (omega (arith, lt, sh.depth))
@@ -185,34 +186,34 @@ module _ (x : Search) (m : Memory) (sh : Shows x m) where
     stop_new j e = ap (stop (after_push x u)) (e ∙ sh.depth) ∙ get_or-append_seam x.path.items (record { state = u; from = x.here }) [] no_stop
 
     path_old : (j : ℕ) → j < m.depth → on n j ≡ on m j
-    path_old j lt = item_other m.path m.depth j u (λ e. omega (arith, e, lt))
+    path_old j lt = item_other m.path m.depth j u.number (λ e. omega (arith, e, lt))
 
-    path_new : (j : ℕ) → j ≡ m.depth → on n j ≡ u
-    path_new j e = ap (on n) e ∙ item_same m.path m.depth u (omega (arith, space, sized.path))
+    path_new : (j : ℕ) → j ≡ m.depth → on n j ≡ u.number
+    path_new j e = ap (on n) e ∙ item_same m.path m.depth u.number (omega (arith, space, sized.path))
 
     held_on : (k z : ℕ) → Held m k z → Held n k z
     held_on k z h = (omega (arith, h.0), path_old k h.0 ∙ h.1)
 
     seen_on : (z : ℕ) → at m.seen z ≡ true → at n.seen z ≡ true
-    seen_on z e = still m.seen u z (omega (arith, fits, sized.seen)) e
+    seen_on z e = still m.seen u.number z (omega (arith, u.within, sized.seen)) e
 
-    gone_on : (z : ℕ) → (z ≡ u → ⊥) → IsGone m z → IsGone n z
+    gone_on : (z : ℕ) → (z ≡ u.number → ⊥) → IsGone m z → IsGone n z
     gone_on z ne g = (seen_on z g.0, λ k h. ⊎_elim (λ old. g.1 k (old, sym (path_old k old) ∙ h.1)) (λ le. ne (sym h.1 ∙ path_new k (omega (arith, le, h.0)))) (cases_lt k m.depth))
 
-    pub push_shows : Shows (after_push x u) (pushed m u)
+    pub push_shows : Shows (after_push x u) (pushed m u.number)
     push_shows = record {
       keepable = sh.keepable;
       breakable = sh.breakable;
-      cursor = sh.cursor ∙ sym (map-set_same (λ (y : Seat). y.cursor) x.seats u v free refl);
+      cursor = sh.cursor ∙ sym (map-set_same (λ (y : Seat). y.cursor) x.seats u.number v free refl);
       here = ap (λ (k : ℕ). k + 1) sh.depth;
       depth = omega (arith, sh.depth, length-append x.path.items (record { state = u; from = x.here } ∷ []));
-      state = λ j lt. ⊎_elim (λ old. path_old j old ∙ (sh.state j old ∙ ap (λ (y : Stop). y.state) (sym (stop_old j old)))) (λ le. let e : j ≡ m.depth = omega (arith, lt, le) in path_new j e ∙ ap (λ (y : Stop). y.state) (sym (stop_new j e))) (cases_lt j m.depth);
+      state = λ j lt. ⊎_elim (λ old. path_old j old ∙ (sh.state j old ∙ ap (λ (y : Stop). y.state.number) (sym (stop_old j old)))) (λ le. let e : j ≡ m.depth = omega (arith, lt, le) in path_new j e ∙ ap (λ (y : Stop). y.state.number) (sym (stop_new j e))) (cases_lt j m.depth);
       from = λ j lt. ⊎_elim (λ old. item_other m.resume m.depth j m.here (λ e. omega (arith, e, old)) ∙ (sh.from j old ∙ ap (λ (y : Stop). upto y.from) (sym (stop_old j old)))) (λ le. let e : j ≡ m.depth = omega (arith, lt, le) in ap (item n.resume) e ∙ (item_same m.resume m.depth m.here (omega (arith, space, sized.resume)) ∙ (sh.here ∙ ap (λ (y : Stop). upto y.from) (sym (stop_new j e))))) (cases_lt j m.depth);
       groups = omega (arith, sh.groups, length-append x.bounds.items (length x.path.items ∷ []));
       bounds = λ i lt. ⊎_elim (λ old. item_other m.bounds m.groups i m.depth (λ e. omega (arith, e, old)) ∙ (sh.bounds i old ∙ sym (get_or_append_left x.bounds.items (length x.path.items ∷ []) 0 i (omega (arith, old, sh.groups))))) (λ le. let e : i ≡ m.groups = omega (arith, lt, le) in ap (item n.bounds) e ∙ (item_same m.bounds m.groups m.depth (omega (arith, few, sized.bounds)) ∙ (sh.depth ∙ (sym (get_or-append_seam x.bounds.items (length x.path.items) [] 0) ∙ ap (item (x.bounds.items ++ length x.path.items ∷ [])) (sym (e ∙ sh.groups)))))) (cases_lt i m.groups);
-      new = λ z e. ⊎_elim (λ is. absurd (new_at _ (sym e ∙ here_is z is))) (λ ne. at_other m.seen u z true ne ∙ sh.new z (sym (away z ne) ∙ e)) (cases_eq z u);
-      held = λ z k e. ⊎_elim (λ is. let same : k ≡ m.depth = ap place_of (sym e ∙ here_is z is) ∙ sym sh.depth in ((omega (arith, same), path_new k same ∙ sym is), ap (at n.seen) is ∙ at_same m.seen u true (omega (arith, fits, sized.seen)))) (λ ne. let h = sh.held z k (sym (away z ne) ∙ e) in (held_on k z h.0, seen_on z h.1)) (cases_eq z u);
-      gone = λ z e. ⊎_elim (λ is. absurd (at_gone _ (sym (here_is z is) ∙ e))) (λ ne. gone_on z ne (sh.gone z (sym (away z ne) ∙ e))) (cases_eq z u);
+      new = λ z e. ⊎_elim (λ is. absurd (new_at _ (sym e ∙ here_is z is))) (λ ne. at_other m.seen u.number z true ne ∙ sh.new z (sym (away z ne) ∙ e)) (cases_eq z u.number);
+      held = λ z k e. ⊎_elim (λ is. let same : k ≡ m.depth = ap place_of (sym e ∙ here_is z is) ∙ sym sh.depth in ((omega (arith, same), path_new k same ∙ sym is), ap (at n.seen) is ∙ at_same m.seen u.number true (omega (arith, u.within, sized.seen)))) (λ ne. let h = sh.held z k (sym (away z ne) ∙ e) in (held_on k z h.0, seen_on z h.1)) (cases_eq z u.number);
+      gone = λ z e. ⊎_elim (λ is. absurd (at_gone _ (sym (here_is z is) ∙ e))) (λ ne. gone_on z ne (sh.gone z (sym (away z ne) ∙ e))) (cases_eq z u.number);
     }
 
 -- A search with nothing on its path.
@@ -244,7 +245,7 @@ module _ (w : Watching) (good : List Bool) (x : Search) (m : Memory) (sh : Shows
   long = omega (arith, length-drop t x.path.items, sh.depth)
 
   at_group : (k : ℕ) → k < length group → state_at group k ≡ on m (t + k)
-  at_group k lt = ap (λ (y : Stop). y.state) (get_or-drop t x.path.items k no_stop) ∙ sym (sh.state (t + k) (omega (arith, lt, long)))
+  at_group k lt = ap (λ (y : Stop). y.state.number) (get_or-drop t x.path.items k no_stop) ∙ sym (sh.state (t + k) (omega (arith, lt, long)))
 
   -- The place in the group of a place from t on.
   back : (i : ℕ) → t ≤ i → i < m.depth → state_at group (i - t) ≡ on m i
@@ -257,24 +258,26 @@ module _ (w : Watching) (good : List Bool) (x : Search) (m : Memory) (sh : Shows
   group_in k z le h = (k - t, omega (arith, long, le, h.0), back k le h.0 ∙ h.1)
 
   -- The parent is the state at the place that t was taken from, if there is one.
-  parent_case : (f : Option ℕ) → item m.resume t ≡ upto f → (Q : Option ℕ → Type 0) → ((p : ℕ) → item m.resume t ≡ p + 1 → Q (Some (on m p))) → (item m.resume t ≡ 0 → Q None) → Q (parent x f)
+  parent_case : (f : Option ℕ) → item m.resume t ≡ upto f → (Q : Option State → Type 0) → ((p : ℕ) → item m.resume t ≡ p + 1 → Q (Some (stop x p).state)) → (item m.resume t ≡ 0 → Q None) → Q (parent x f)
   parent_case None e Q some none = none e
-  parent_case (Some p) e Q some none = subst (λ (s : ℕ). Q (Some s)) (sh.state p (omega (arith, e, ok.resume_le t under, under))) (some p e)
+  parent_case (Some p) e Q some none = some p e
 
-  from_there : (z : ℕ) → parent x (stop x t).from ≡ Some z → (k : ℕ) × Held m k z
-  from_there z =
-      parent_case (stop x t).from (sh.from t under) (λ f. f ≡ Some z → (k : ℕ) × Held m k z) (λ k e is. (k, (omega (arith, e, ok.resume_le t under, under), same_Some _ _ is))) (λ _ no. absurd (none-some z no))
+  from_there : (q : State) → parent x (stop x t).from ≡ Some q → (k : ℕ) × Held m k q.number
+  from_there q =
+      parent_case (stop x t).from (sh.from t under) (λ f. f ≡ Some q → (k : ℕ) × Held m k q.number) (λ k e is. let low : k < m.depth = omega (arith, e, ok.resume_le t under, under) in (k, (low, sh.state k low ∙ ap (λ (y : State). y.number) (same_Some _ _ is)))) (λ _ no. absurd (none-some q no))
 
   module _ (v : Bool) (before after : List Bool) (s : Shared group (parent x (stop x t).from) before after) where
     only_of : (z : ℕ) → at after z ≡ true → (at before z ≡ true) ⊎ (((k : ℕ) × (t ≤ k) × (k < m.depth) × (at before (on m k) ≡ true)) × ((k : ℕ) × Held m k z))
     only_of z e =
-        ⊎_elim (λ old. inl old) (λ h. inr ((t + h.0.0, omega arith, omega (arith, h.0.1, long), ap (at before) (sym (at_group h.0.0 h.0.1)) ∙ h.0.2), ⊎_elim (λ i. let g = in_group z i in (g.0, g.2)) (from_there z) h.1)) (s.only z e)
+        ⊎_elim (λ old. inl old) (λ h. inr ((t + h.0.0, omega arith, omega (arith, h.0.1, long), ap (at before) (sym (at_group h.0.0 h.0.1)) ∙ h.0.2), ⊎_elim (λ i. let g = in_group z i in (g.0, g.2)) (λ p. subst (λ (z : ℕ). (k : ℕ) × Held m k z) p.2 (from_there p.0 p.1)) h.1)) (s.only z e)
 
     even_of : (j k : ℕ) → t ≤ j → j < m.depth → t ≤ k → k < m.depth → at after (on m j) ≡ true → at after (on m k) ≡ true
     even_of j k a b c d e = ap (at after) (sym (back k c d)) ∙ s.even (j - t) (k - t) (omega (arith, long)) (omega (arith, long)) (ap (at after) (back j a b) ∙ e)
 
     told_of : (q : ℕ) → item m.resume t ≡ q + 1 → at after (on m t) ≡ true → at after (on m q) ≡ true
-    told_of q is e = s.told 0 (on m q) (omega (arith, long, under)) (parent_case (stop x t).from (sh.from t under) (λ f. f ≡ Some (on m q)) (λ p e. ap (λ (n : ℕ). Some (on m n)) (omega (arith, e, is))) (λ no. absurd (omega (arith, no, is)))) (ap (at after) (at_group 0 (omega (arith, long, under)) ∙ ap (on m) (omega arith)) ∙ e)
+    told_of q is e =
+        let low : q < m.depth = omega (arith, is, ok.resume_le t under, under) in
+        ap (at after) (sh.state q low) ∙ s.told 0 (stop x q).state (omega (arith, long, under)) (parent_case (stop x t).from (sh.from t under) (λ f. f ≡ Some (stop x q).state) (λ p e. ap (λ (n : ℕ). Some (stop x n).state) (omega (arith, e, is))) (λ no. absurd (omega (arith, no, is)))) (ap (at after) (at_group 0 (omega (arith, long, under)) ∙ ap (on m) (omega arith)) ∙ e)
 
   shared : (v : Bool) → Shared group (parent x (stop x t).from) (cond v m.keepable m.breakable) (cond v y.keepable y.breakable)
   shared true = subst (λ (b : List Bool). Shared group (parent x (stop x t).from) b y.keepable) (sym sh.keepable) l.keepable
@@ -312,7 +315,7 @@ module _ (w : Watching) (good : List Bool) (x : Search) (m : Memory) (sh : Shows
     cursor = sh.cursor ∙ sym l.seats.cursors;
     here = sh.from t under ∙ ap upto (sym l.here);
     depth = omega (arith, length-take-le t x.path.items (omega (arith, under, sh.depth)), ap (λ (ys : List Stop). length ys) l.path);
-    state = λ j lt. sh.state j (omega (arith, lt, under)) ∙ ap (λ (s : Stop). s.state) (stays j lt);
+    state = λ j lt. sh.state j (omega (arith, lt, under)) ∙ ap (λ (s : Stop). s.state.number) (stays j lt);
     from = λ j lt. sh.from j (omega (arith, lt, under)) ∙ ap (λ (s : Stop). upto s.from) (stays j lt);
     groups = omega (arith, sh.groups, length-take-le (length x.bounds.items - 1) x.bounds.items (omega arith), ap (λ (ys : List ℕ). length ys) l.bounds);
     bounds = λ i lt. sh.bounds i (omega (arith, lt)) ∙ (sym (get_or-take (length x.bounds.items - 1) x.bounds.items i 0 (omega (arith, lt, sh.groups))) ∙ ap (λ (ys : List ℕ). item ys i) (sym l.bounds));

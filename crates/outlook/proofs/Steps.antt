@@ -1,19 +1,17 @@
 -- The steps of a search, by what it remembers.
 use Rattle.std.proofs.Common.{◌≡◌, ◌≢◌, ℕ, ◌+◌, ◌-◌, ◌<◌, ◌≤◌, Bool, true, false, cond, List, length, Some, None, sym, ap, ◌∙◌, subst, subst₂, ⊎_elim, arith, length-set}
-use Rattle.std.specs.List.{All}
-use Rattle.std.proofs.lemmas.List.{get_or_default}
 use Rattle.std.proofs.lemmas.Bool.{cases_lt}
 use Rattle.watch.specs.Letters.{letter_count}
 use Rattle.watch.specs.Watchers.{Watching, Lawful}
 use Rattle.outlook.specs.Outlooks.{at, Foresees}
 use Rattle.outlook.specs.inner.Ways.{value}
-use Rattle.outlook.specs.inner.Tables.{item, no_stop}
+use Rattle.outlook.specs.inner.Tables.{item}
 use Rattle.outlook.specs.inner.Memories.{stop, standing, cursor, after_letter, after_push, after_note, after_absorb, Joined, Left}
 use Rattle.outlook.specs.inner.Searching.{Memory, on, bound, Held, Spent, Sized, Searching, Onward, pushed, advanced, noted, absorbed, stood}
 use Rattle.outlook.specs.inner.Searching.{Gone as IsGone}
 use Rattle.outlook.specs.inner.Showing.{upto, Shows, Goes, Stepped, Ran}
+use Rattle.outlook.specs.declared.state.State.{State}
 use Rattle.outlook.specs.declared.search.Standing.TheVariants.{New, At, Gone}
-use Rattle.outlook.specs.declared.search.Stop.{Stop}
 use Rattle.outlook.specs.declared.search.Search.{Search}
 use Rattle.outlook.proofs.Basics.{at_same, groups_le, room_left}
 use Rattle.outlook.proofs.Sharing.{still}
@@ -23,12 +21,9 @@ use Rattle.outlook.proofs.Showing.{cursor_is, was_seen, not_new, letter_shows, n
 
 module _ (w : Watching) (law : Lawful w) (good : List Bool) (x : Search) (m : Memory) (sh : Shows x m) (ok : Searching w good m) where
   -- There is room for a state that is new.
-  module _ (u : ℕ) (within : u < w.states) (new : standing x u ≡ New) where
-    fits : u < 16384
-    fits = omega (arith, within, law.few_states)
-
+  module _ (u : State) (within : u.number < w.states) (new : standing x u.number ≡ New) where
     space : m.depth < 16384
-    space = room_left w law good m ok u within (sh.new u new)
+    space = room_left w law good m ok u.number within (sh.new u.number new)
 
     few : m.groups < 16384
     few = omega (arith, space, groups_le w law good m ok)
@@ -36,28 +31,24 @@ module _ (w : Watching) (law : Lawful w) (good : List Bool) (x : Search) (m : Me
     pub room : (length x.path.items < 16384) × (length x.bounds.items < 16384)
     room = (omega (arith, space, sh.depth), omega (arith, few, sh.groups))
 
-    shows : Shows (after_push x u) (pushed m u)
-    shows = push_shows x m sh ok.sized u fits (sh.new u new) space few
+    shows : Shows (after_push x u) (pushed m u.number)
+    shows = push_shows x m sh ok.sized u (sh.new u.number new) space few
 
     -- A search from one state more.
     pub visit_goes : x.here ≡ None → Goes w good (after_push x u)
-    visit_goes idle = (pushed m u, shows, visit_push w law good m ok (sh.here ∙ ap upto idle) u within (sh.new u new))
+    visit_goes idle = (pushed m u.number, shows, visit_push w law good m ok (sh.here ∙ ap upto idle) u.number within (sh.new u.number new))
 
-    in_seen : u < length m.seen
-    in_seen = omega (arith, fits, ok.sized.seen)
+    in_seen : u.number < length m.seen
+    in_seen = omega (arith, u.within, ok.sized.seen)
 
-    pub visit_ran : (y : Search) → Ran w good (after_push x u) y → Ran w good x y × (standing y u ≢ New)
+    pub visit_ran : (y : Search) → Ran w good (after_push x u) y → Ran w good x y × (standing y u.number ≢ New)
     visit_ran y r = (
       record {
         goes = r.goes;
-        still_seen = λ z old. r.still_seen z (not_new (after_push x u) (pushed m u) shows z (still m.seen u z in_seen (was_seen x m sh z old)));
+        still_seen = λ z old. r.still_seen z (not_new (after_push x u) (pushed m u.number) shows z (still m.seen u.number z in_seen (was_seen x m sh z old)));
       },
-      r.still_seen u (not_new (after_push x u) (pushed m u) shows u (at_same m.seen u true in_seen)),
+      r.still_seen u.number (not_new (after_push x u) (pushed m u.number) shows u.number (at_same m.seen u.number true in_seen)),
     )
-
-  pub states_fit : All (λ (s : Stop). s.state < 16384) x.path.items
-  states_fit k d lt =
-      omega (arith, ap (λ (s : Stop). s.state) (get_or_default x.path.items k d no_stop lt), sh.state k (omega (arith, lt, sh.depth)), ok.within k (omega (arith, lt, sh.depth)), law.few_states)
 
   -- Every state was on the path, and the path is empty.
   pub told : x.here ≡ None → ((s : ℕ) → s < w.states → standing x s ≢ New) → (v : Bool) → Foresees w good v (at (cond v x.keepable x.breakable))
@@ -80,18 +71,18 @@ module _ (w : Watching) (law : Lawful w) (good : List Bool) (x : Search) (m : Me
     pub some_bound : 0 < length x.bounds.items
     some_bound = omega (arith, some_group, sh.groups)
 
-    spent : letter_count w.events ≤ cursor x (stop x t).state → Spent w m (on m t)
+    spent : letter_count w.events ≤ cursor x (stop x t).state.number → Spent w m (on m t)
     spent done = omega (arith, done, cursor_is x m sh (on m t), ap (cursor x) (sh.state t under))
 
-    pub leave_step : (y : Search) → Left x t y → item x.bounds.items (length x.bounds.items - 1) ≡ t → letter_count w.events ≤ cursor x (stop x t).state → Stepped w good x y
+    pub leave_step : (y : Search) → Left x t y → item x.bounds.items (length x.bounds.items - 1) ≡ t → letter_count w.events ≤ cursor x (stop x t).state.number → Stepped w good x y
     leave_step y l last done =
         stepped w good x y m _ sh (leave_shows w good x m sh ok t under y l) (step_leave w law good m ok t is y.keepable y.breakable (handed w good x m sh ok t under y l) (last_is ∙ last) (spent done))
 
-    pub back_step : (item x.bounds.items (length x.bounds.items - 1) ≡ t → ⊥) → letter_count w.events ≤ cursor x (stop x t).state → Stepped w good x (record { keepable = x.keepable; breakable = x.breakable; seats = x.seats; path = x.path; bounds = x.bounds; here = (stop x t).from })
+    pub back_step : (item x.bounds.items (length x.bounds.items - 1) ≡ t → ⊥) → letter_count w.events ≤ cursor x (stop x t).state.number → Stepped w good x (record { keepable = x.keepable; breakable = x.breakable; seats = x.seats; path = x.path; bounds = x.bounds; here = (stop x t).from })
     back_step other done =
         stepped w good x _ m _ sh (back_shows x m sh t under) (step_back w law good m ok t is (λ e. other (sym last_is ∙ e)) (spent done))
 
-    module _ (s : ℕ) (there : (stop x t).state ≡ s) (more : cursor x s < letter_count w.events) where
+    module _ (s : ℕ) (there : (stop x t).state.number ≡ s) (more : cursor x s < letter_count w.events) where
       same_state : on m t ≡ s
       same_state = sh.state t under ∙ there
 
@@ -104,35 +95,35 @@ module _ (w : Watching) (law : Lawful w) (good : List Bool) (x : Search) (m : Me
       sized : Sized (advanced m s)
       sized = record { keepable = ok.sized.keepable; breakable = ok.sized.breakable; seen = ok.sized.seen; cursor = length-set m.cursor s _ ∙ ok.sized.cursor; path = ok.sized.path; place = ok.sized.place; resume = ok.sized.resume; bounds = ok.sized.bounds }
 
-      module _ (u : ℕ) (leads : u ≡ w.next s (cursor x s)) where
-        same_next : w.next (on m t) (item m.cursor (on m t)) ≡ u
+      module _ (u : State) (leads : u.number ≡ w.next s (cursor x s)) where
+        same_next : w.next (on m t) (item m.cursor (on m t)) ≡ u.number
         same_next = ap (λ (z : ℕ). w.next z (item m.cursor z)) same_state ∙ (ap (w.next s) (cursor_is x m sh s) ∙ sym leads)
 
-        within : u < w.states
+        within : u.number < w.states
         within = omega (arith, leads, law.next_within s (cursor x s))
 
-        onward : (f : ℕ → ℕ → Memory) → Onward w good m (f (on m t) (w.next (on m t) (item m.cursor (on m t)))) → Onward w good m (f s u)
+        onward : (f : ℕ → ℕ → Memory) → Onward w good m (f (on m t) (w.next (on m t) (item m.cursor (on m t)))) → Onward w good m (f s u.number)
         onward f o = subst₂ (λ (a b : ℕ). Onward w good m (f a b)) same_state same_next o
 
-        module _ (new : standing (after_letter x s) u ≡ New) where
-          unseen : at m.seen u ≡ false
-          unseen = shows_letter.new u new
+        module _ (new : standing (after_letter x s) u.number ≡ New) where
+          unseen : at m.seen u.number ≡ false
+          unseen = shows_letter.new u.number new
 
           space_left : m.depth < 16384
-          space_left = room_left w law good m ok u within unseen
+          space_left = room_left w law good m ok u.number within unseen
 
           pub new_room : (length x.path.items < 16384) × (length x.bounds.items < 16384)
           new_room = (omega (arith, space_left, sh.depth), omega (arith, space_left, groups_le w law good m ok, sh.groups))
 
           pub new_step : Stepped w good x (after_push (after_letter x s) u)
           new_step =
-              stepped w good x _ m _ sh (push_shows (after_letter x s) (advanced m s) shows_letter sized u (omega (arith, within, law.few_states)) unseen space_left (omega (arith, space_left, groups_le w law good m ok))) (onward (λ s u. advanced (pushed m u) s) (step_new w law good m ok t is more_here (ap (at m.seen) same_next ∙ unseen)))
+              stepped w good x _ m _ sh (push_shows (after_letter x s) (advanced m s) shows_letter sized u unseen space_left (omega (arith, space_left, groups_le w law good m ok))) (onward (λ s u. advanced (pushed m u) s) (step_new w law good m ok t is more_here (ap (at m.seen) same_next ∙ unseen)))
 
-        pub gone_step : standing (after_letter x s) u ≡ Gone → Stepped w good x (after_absorb (after_letter x s) s u)
+        pub gone_step : standing (after_letter x s) u.number ≡ Gone → Stepped w good x (after_absorb (after_letter x s) s u.number)
         gone_step gone =
-            stepped w good x _ m _ sh (absorb_shows (after_letter x s) (advanced m s) shows_letter s u) (onward (λ s u. advanced (absorbed m s u) s) (step_gone w law good m ok t is more_here (subst (IsGone m) (sym same_next) (shows_letter.gone u gone))))
+            stepped w good x _ m _ sh (absorb_shows (after_letter x s) (advanced m s) shows_letter s u.number) (onward (λ s u. advanced (absorbed m s u) s) (step_gone w law good m ok t is more_here (subst (IsGone m) (sym same_next) (shows_letter.gone u.number gone))))
 
-        module _ (back : ℕ) (at_back : standing (after_letter x s) u ≡ At back) (y : Search) (j : Joined (after_note (after_letter x s) s (value w good s)) back y) (until : 0 < length y.bounds.items → item y.bounds.items (length y.bounds.items - 1) ≤ back) where
+        module _ (back : ℕ) (at_back : standing (after_letter x s) u.number ≡ At back) (y : Search) (j : Joined (after_note (after_letter x s) s (value w good s)) back y) (until : 0 < length y.bounds.items → item y.bounds.items (length y.bounds.items - 1) ≤ back) where
           abbrev n : ℕ
           n = length y.bounds.items
 
@@ -154,4 +145,4 @@ module _ (w : Watching) (law : Lawful w) (good : List Bool) (x : Search) (m : Me
 
           pub held_step : Stepped w good x y
           held_step =
-              stepped w good x y m _ sh shows_joined (onward (λ s u. advanced (stood (noted m s (value w good s)) m.depth n m.here) s) (step_held w law good m ok t is more_here back (subst (Held m back) (sym same_next) (shows_letter.held u back at_back).0) n some_left fewer beyond last))
+              stepped w good x y m _ sh shows_joined (onward (λ s u. advanced (stood (noted m s (value w good s)) m.depth n m.here) s) (step_held w law good m ok t is more_here back (subst (Held m back) (sym same_next) (shows_letter.held u.number back at_back).0) n some_left fewer beyond last))

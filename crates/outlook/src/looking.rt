@@ -11,6 +11,7 @@ ghost use Rattle.outlook.specs.inner.Showing.{Goes, LookedAt, Stepped, Ran};
 
 use crate::chart::Outlook;
 use crate::search::{Search, Standing};
+use crate::state::State;
 use crate::tables::MARK_SETS;
 use watch::Watcher;
 
@@ -37,19 +38,28 @@ impl<'a, W: Watcher> Drop for Guide<'a, W> {
 // would be no plainer: it holds ways along the letters, so it would be truncated, and each method would have to
 // promise that the watcher stays.
 impl<'a, W: Watcher> Guide<'a, W> {
+    // The state to which the letter leads.
+    fn next(&self, state: State, letter: u16) -> State
+        ensures { result.number ≡ (W.watching self.now.watcher.now).next state.number letter }
+    {
+        State {
+            number: self.watcher.next(state.number, letter),
+        }
+    }
+
     // Follows the next letter of the state, which stands at the place that is looked at.
-    fn look(&self, search: &mut Search, state: u16)
+    fn look(&self, search: &mut Search, state: State)
         requires goes { Goes (W.watching self.now.watcher.now) self.now.good.now search.old }
         requires looked { LookedAt search.old state }
-        requires more { cursor search.old state < self.now.letters }
+        requires more { cursor search.old state.number < self.now.letters }
         ensures { Stepped (W.watching self.now.watcher.now) self.now.good.now search.old search.new }
     {
         let letter = search.take_letter(state);
-        let next = self.watcher.next(state, letter);
+        let next = self.next(state, letter);
         match search.standing(next) {
             Standing::New => search.push(next),
             Standing::At(back) => {
-                let marks = self.watcher.shown(state);
+                let marks = self.watcher.shown(state.number);
                 search.note(state, self.good[usize::from(marks.bits)]);
                 search.join(back);
             }
@@ -63,7 +73,7 @@ impl<'a, W: Watcher> Guide<'a, W> {
         requires here { search.old.here ≡ Some place }
         ensures { Stepped (W.watching self.now.watcher.now) self.now.good.now search.old search.new }
     {
-        let stop = search.path[usize::from(place)];
+        let stop = search.stop(place);
         if search.cursor(stop.state) < self.letters {
             self.look(search, stop.state);
         } else if search.opens(place) {
@@ -85,13 +95,13 @@ impl<'a, W: Watcher> Guide<'a, W> {
     }
 
     // Searches from the state, unless it was on the path before.
-    fn visit(&self, search: &mut Search, state: u16)
+    fn visit(&self, search: &mut Search, state: State)
         requires goes { Goes (W.watching self.now.watcher.now) self.now.good.now search.old }
         requires idle { search.old.here ≡ None }
-        requires within { state < (W.watching self.now.watcher.now).states }
+        requires within { state.number < (W.watching self.now.watcher.now).states }
         ensures idle { search.new.here ≡ None }
         ensures ran { Ran (W.watching self.now.watcher.now) self.now.good.now search.old search.new }
-        ensures seen { standing search.new state ≢ New }
+        ensures seen { standing search.new state.number ≢ New }
     {
         if let Standing::New = search.standing(state) {
             search.push(state);
@@ -113,8 +123,8 @@ pub fn outlook<W: Watcher>(watcher: &W, good: &[bool; MARK_SETS]) -> Outlook
         letters: sizes.letters,
     };
     let mut search = Search::begin();
-    for state in 0..sizes.states {
-        guide.visit(&mut search, state);
+    for number in 0..sizes.states {
+        guide.visit(&mut search, State { number });
     }
     Outlook {
         keepable: search.keepable,

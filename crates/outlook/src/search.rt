@@ -4,13 +4,13 @@
 // the states of a group lead to each other. A letter that leads back into the path joins the groups from there on.
 // A group that no letter is left to join is done, and leaves the path. Nothing is on the heap.
 ghost use Rattle.std.specs.Prelude.{◌≡◌, ◌≢◌, ℕ, ◌-◌, ◌<◌, ◌≤◌, Bool, true, false, List, length};
-ghost use Rattle.std.specs.List.{All};
 ghost use Rattle.arrayvec.specs.ArrayVec.{array_vec_len};
 ghost use Rattle.watch.specs.Watchers.{Watching};
 ghost use Rattle.outlook.specs.inner.Tables.{item};
 ghost use Rattle.outlook.specs.inner.Showing.{Goes};
 ghost use Rattle.outlook.specs.inner.Memories.{stop, standing, cursor, after_letter, after_push, after_note, after_absorb, Dismissed, Joined, Left};
 
+use crate::state::State;
 use crate::tables::{MOST_STATES, share};
 use arrayvec::ArrayVec;
 
@@ -42,7 +42,7 @@ impl Seat {
 // A state on the path, and the place that was looked at when it came.
 #[derive(Clone, Copy, Default)]
 pub(crate) struct Stop {
-    pub(crate) state: u16,
+    pub(crate) state: State,
     pub(crate) from: Option<u16>,
 }
 
@@ -61,11 +61,10 @@ pub(crate) struct Search {
 
 // The states of the group are gone.
 fn dismiss(seats: &mut [Seat; MOST_STATES], group: &[Stop])
-    requires { All (λ s. s.state < 16384) group.now }
     ensures { Dismissed group.now (length group.now) seats.old seats.new }
 {
     for stop in group {
-        seats[usize::from(stop.state)].standing = Standing::Gone;
+        seats[usize::from(stop.state.number)].standing = Standing::Gone;
     }
 }
 
@@ -85,43 +84,47 @@ impl Search {
         }
     }
 
-    // How the state stands to the path.
-    pub(crate) fn standing(&self, state: u16) -> Standing
-        requires { state < 16384 }
-        ensures { result ≡ standing self.now state }
+    // The stop at the place.
+    pub(crate) fn stop(&self, place: u16) -> Stop
+        requires { place < array_vec_len self.now.path }
+        ensures { result ≡ stop self.now place }
     {
-        self.seats[usize::from(state)].standing
+        self.path[usize::from(place)]
+    }
+
+    // How the state stands to the path.
+    pub(crate) fn standing(&self, state: State) -> Standing
+        ensures { result ≡ standing self.now state.number }
+    {
+        self.seats[usize::from(state.number)].standing
     }
 
     // The next letter of the state.
-    pub(crate) fn cursor(&self, state: u16) -> u16
-        requires { state < 16384 }
-        ensures { result ≡ cursor self.now state }
+    pub(crate) fn cursor(&self, state: State) -> u16
+        ensures { result ≡ cursor self.now state.number }
     {
-        self.seats[usize::from(state)].cursor
+        self.seats[usize::from(state.number)].cursor
     }
 
     // Takes the next letter of the state.
-    pub(crate) fn take_letter(&mut self, state: u16) -> u16
-        requires within { state < 16384 }
-        requires few { cursor self.old state < 243 }
-        ensures letter { result ≡ cursor self.old state }
-        ensures after { self.new ≡ after_letter self.old state }
+    pub(crate) fn take_letter(&mut self, state: State) -> u16
+        requires { cursor self.old state.number < 243 }
+        ensures letter { result ≡ cursor self.old state.number }
+        ensures after { self.new ≡ after_letter self.old state.number }
     {
         let letter = self.cursor(state);
-        self.seats[usize::from(state)].cursor = letter + 1;
+        self.seats[usize::from(state.number)].cursor = letter + 1;
         letter
     }
 
     // Puts a state on the end of the path, in a group of its own.
-    pub(crate) fn push(&mut self, state: u16)
+    pub(crate) fn push(&mut self, state: State)
         requires room { array_vec_len self.old.path < 16384 }
         requires few { array_vec_len self.old.bounds < 16384 }
-        requires within { state < 16384 }
         ensures { self.new ≡ after_push self.old state }
     {
         let end = self.path.len() as u16;
-        self.seats[usize::from(state)].standing = Standing::At(end);
+        self.seats[usize::from(state.number)].standing = Standing::At(end);
         self.path.push(Stop {
             state,
             from: self.here,
@@ -131,25 +134,22 @@ impl Search {
     }
 
     // The state can come to rest at its own marks, which are good or not.
-    pub(crate) fn note(&mut self, state: u16, good: bool)
-        requires { state < 16384 }
-        ensures { self.new ≡ after_note self.old state good }
+    pub(crate) fn note(&mut self, state: State, good: bool)
+        ensures { self.new ≡ after_note self.old state.number good }
     {
         if good {
-            self.keepable[usize::from(state)] = true;
+            self.keepable[usize::from(state.number)] = true;
         } else {
-            self.breakable[usize::from(state)] = true;
+            self.breakable[usize::from(state.number)] = true;
         }
     }
 
     // The state can come to all that the other can come to.
-    pub(crate) fn absorb(&mut self, state: u16, other: u16)
-        requires state { state < 16384 }
-        requires other { other < 16384 }
-        ensures { self.new ≡ after_absorb self.old state other }
+    pub(crate) fn absorb(&mut self, state: State, other: State)
+        ensures { self.new ≡ after_absorb self.old state.number other.number }
     {
-        self.keepable[usize::from(state)] |= self.keepable[usize::from(other)];
-        self.breakable[usize::from(state)] |= self.breakable[usize::from(other)];
+        self.keepable[usize::from(state.number)] |= self.keepable[usize::from(other.number)];
+        self.breakable[usize::from(state.number)] |= self.breakable[usize::from(other.number)];
     }
 
     // Whether the last group begins at the place.
@@ -176,12 +176,11 @@ impl Search {
     pub(crate) fn leave(&mut self, first: u16)
         requires under { first < array_vec_len self.old.path }
         requires back { (p : ℕ) → (stop self.old first).from ≡ Some p → p < array_vec_len self.old.path }
-        requires within { All (λ s. s.state < 16384) self.old.path.items }
         ensures { Left self.old first self.new }
     {
-        let from = self.path[usize::from(first)].from;
+        let from = self.stop(first).from;
         let parent = match from {
-            Some(place) => Some(self.path[usize::from(place)].state),
+            Some(place) => Some(self.stop(place).state),
             None => None,
         };
         let group = &self.path[usize::from(first)..];

@@ -2,6 +2,7 @@
 use Rattle.std.specs.Prelude.{◌≡◌, ℕ, ◌+◌, ◌-◌, ◌<◌, ◌≤◌, Bool, true, cond, ◌||◌, ◌⊎◌, List, [], ◌∷◌, ◌++◌, length, map, take, drop, slice_index_or, slice_set, Option, Some, None}
 use Rattle.outlook.specs.Outlooks.{at}
 use Rattle.outlook.specs.inner.Tables.{item, stop_at, In, Shared}
+use Rattle.outlook.specs.declared.state.State.{State}
 use Rattle.outlook.specs.declared.search.Standing.{Standing}
 use Rattle.outlook.specs.declared.search.Standing.TheVariants.{New, At, Gone}
 use Rattle.outlook.specs.declared.search.Seat.{Seat}
@@ -36,11 +37,11 @@ after_letter x s = record {
 }
 
 -- The state goes on the path, in a group of its own.
-abbrev pub after_push : Search → ℕ → Search
+abbrev pub after_push : Search → State → Search
 after_push x s = record {
   keepable = x.keepable;
   breakable = x.breakable;
-  seats = slice_set x.seats s (record { standing = At (length x.path.items); cursor = cursor x s });
+  seats = slice_set x.seats s.number (record { standing = At (length x.path.items); cursor = cursor x s.number });
   path = record { items = x.path.items ++ (record { state = s; from = x.here }) ∷ [] };
   bounds = record { items = x.bounds.items ++ length x.path.items ∷ [] };
   here = Some (length x.path.items);
@@ -82,7 +83,7 @@ pub record Joined (x : Search) (place : ℕ) (y : Search) : Type 0 where
   pub same : y ≡ record { keepable = x.keepable; breakable = x.breakable; seats = x.seats; path = x.path; bounds = y.bounds; here = x.here }
 
 -- The state at the place, if there is one.
-abbrev pub parent : Search → Option ℕ → Option ℕ
+abbrev pub parent : Search → Option ℕ → Option State
 parent x None = None
 parent x (Some p) = Some (stop x p).state
 

@@ -7,6 +7,7 @@ use Rattle.outlook.specs.inner.Tables.{item}
 use Rattle.outlook.specs.inner.Searching.{Memory, Held, on, Searching}
 use Rattle.outlook.specs.inner.Searching.{Gone as IsGone}
 use Rattle.outlook.specs.inner.Memories.{stop, standing}
+use Rattle.outlook.specs.declared.state.State.{State}
 use Rattle.outlook.specs.declared.search.Standing.TheVariants.{New, At, Gone}
 use Rattle.outlook.specs.declared.search.Seat.{Seat}
 use Rattle.outlook.specs.declared.search.Search.{Search}
@@ -26,7 +27,7 @@ pub record Shows (x : Search) (m : Memory) : Type 0 where
   pub cursor : m.cursor ≡ cursors x
   pub here : m.here ≡ upto x.here
   pub depth : m.depth ≡ length x.path.items
-  pub state : (j : ℕ) → j < m.depth → on m j ≡ (stop x j).state
+  pub state : (j : ℕ) → j < m.depth → on m j ≡ (stop x j).state.number
   pub from : (j : ℕ) → j < m.depth → item m.resume j ≡ upto (stop x j).from
   pub groups : m.groups ≡ length x.bounds.items
   pub bounds : (i : ℕ) → i < m.groups → item m.bounds i ≡ item x.bounds.items i
@@ -39,7 +40,7 @@ abbrev pub Goes : Watching → List Bool → Search → Type 0
 Goes w good x = (m : Memory) × Shows x m × Searching w good m
 
 -- The state stands at the place that is looked at.
-abbrev pub LookedAt : Search → ℕ → Type 0
+abbrev pub LookedAt : Search → State → Type 0
 LookedAt x s = (p : ℕ) × (x.here ≡ Some p) × ((stop x p).state ≡ s)
 
 -- The letters that are left, and the places to go back over.

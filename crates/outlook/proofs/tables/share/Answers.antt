@@ -9,7 +9,7 @@ returns-then-not-any c =
 
 pub returns-in-Some : goal.returns-in-Some
 returns-in-Some c =
-    subst (λ (s : ℕ). Shared c.args.group.now c.args.parent c.args.table.now (set c.fill.new.table s true)) (sym c.from.ensures) (shared_told c.args.group.now c.args.parent c.args.table.now (some_in c.args.table.now c.args.group.now (sym c.any.ensures ∙ c.if-not-any.false)) c.fill.new.table c.fill.ensures c.in-Some.state c.in-Some.is (omega (arith, c.requires.parent c.in-Some.state c.in-Some.is, c.fill.array_long)))
+    subst (λ (s : ℕ). Shared c.args.group.now c.args.parent c.args.table.now (set c.fill.new.table s true)) (sym c.from.ensures) (shared_told c.args.group.now c.args.parent c.args.table.now (some_in c.args.table.now c.args.group.now (sym c.any.ensures ∙ c.if-not-any.false)) c.fill.new.table c.fill.ensures c.in-Some.state c.in-Some.is (omega (arith, c.in-Some.state.within, c.fill.array_long)))
 
 pub returns-in_default : goal.returns-in_default
 returns-in_default c =
