@@ -13,3 +13,4 @@ pub mod Beginning
 pub mod Dismissing
 pub mod Showing
 pub mod Steps
+pub mod Following
