@@ -16,9 +16,6 @@ pub seat_other : (seats : List Seat) (s z : ℕ) (v : Seat) → (z ≡ s → ⊥
 seat_other seats s z v ne = get_or-set_other seats s z v free ne
 
 module _ (group : List Stop) (before : List Seat) where
-  pub dismissed_none : Dismissed group 0 before before
-  dismissed_none = record { long = refl; cursors = refl; gone = λ z h. absurd (omega (arith, h.1)); others = λ z. inr refl }
-
   module _ (i : ℕ) (seats : List Seat) (fits : state_at group i < length seats) (x : Dismissed group i before seats) where
     abbrev s : ℕ
     s = state_at group i

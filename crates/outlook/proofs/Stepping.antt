@@ -8,7 +8,7 @@ use Rattle.outlook.specs.Outlooks.{at}
 use Rattle.outlook.specs.inner.Ways.{Reaches, here, step, Leads, value, Stays}
 use Rattle.outlook.specs.inner.Tables.{item}
 use Rattle.outlook.specs.inner.Searching.{Memory, on, bound, known, Held, Gone, Opens, Spent, Searching, Handed, Onward, pushed, advanced, learned, noted, absorbed, stood}
-use Rattle.outlook.proofs.Basics.{item_same, item_other, for_both, room_left, groups_le, leads_last, leads_here, depth_fits}
+use Rattle.outlook.proofs.Basics.{item_same, item_other, for_both, room_left, groups_le, leads_last, leads_here}
 use Rattle.outlook.proofs.Sharing.{still}
 use Rattle.outlook.proofs.Noting.{joint_kept, joint_only, joint_told, noted_kept, noted_only, noted_own, noted_keepable, noted_breakable}
 use Rattle.outlook.proofs.Ways.{leads_on, leads_to, leads_step}
@@ -31,9 +31,6 @@ module _ (w : Watching) (law : Lawful w) (good : List Bool) (x : Memory) (ok : S
 
   pub state_fits : on x t < 16384
   state_fits = omega (arith, ok.within t under, law.few_states)
-
-  pub place_fits : t < 16384
-  place_fits = omega (arith, under, depth_fits w law good x ok)
 
   -- No letter is left, and the place is inside its group.
   pub step_back : (bound x (x.groups - 1) ≡ t → ⊥) → Spent w x (on x t) → Onward w good x (stood x x.depth x.groups (item x.resume t))

@@ -1,5 +1,5 @@
 -- The steps of a search, by what it remembers.
-use Rattle.std.proofs.Common.{◌≡◌, ◌≢◌, ℕ, ◌+◌, ◌-◌, ◌<◌, ◌≤◌, Bool, true, false, cond, List, length, Some, None, sym, ap, ◌∙◌, subst, subst₂, ⊎_elim, arith, length-set}
+use Rattle.std.proofs.Common.{◌≡◌, ◌≢◌, ℕ, ◌+◌, ◌-◌, ◌<◌, ◌≤◌, Bool, false, cond, List, length, Some, None, sym, ap, ◌∙◌, subst, subst₂, ⊎_elim, arith, length-set}
 use Rattle.std.proofs.lemmas.Bool.{cases_lt}
 use Rattle.watch.specs.Letters.{letter_count}
 use Rattle.watch.specs.Watchers.{Watching, Lawful}
@@ -9,15 +9,14 @@ use Rattle.outlook.specs.inner.Tables.{item}
 use Rattle.outlook.specs.inner.Memories.{stop, standing, cursor, after_letter, after_push, after_note, after_absorb, Joined, Left}
 use Rattle.outlook.specs.inner.Searching.{Memory, on, bound, Held, Spent, Sized, Searching, Onward, pushed, advanced, noted, absorbed, stood}
 use Rattle.outlook.specs.inner.Searching.{Gone as IsGone}
-use Rattle.outlook.specs.inner.Showing.{upto, Shows, Goes, Stepped, Ran}
+use Rattle.outlook.specs.inner.Showing.{upto, Shows, Goes, Stepped}
 use Rattle.outlook.specs.declared.state.State.{State}
 use Rattle.outlook.specs.declared.search.Standing.TheVariants.{New, At, Gone}
 use Rattle.outlook.specs.declared.search.Search.{Search}
-use Rattle.outlook.proofs.Basics.{at_same, groups_le, room_left}
-use Rattle.outlook.proofs.Sharing.{still}
+use Rattle.outlook.proofs.Basics.{groups_le, room_left}
 use Rattle.outlook.proofs.Beginning.{visit_push, foretold}
 use Rattle.outlook.proofs.Stepping.{step_back, step_leave, step_new, step_gone, step_held}
-use Rattle.outlook.proofs.Showing.{cursor_is, was_seen, not_new, letter_shows, note_shows, absorb_shows, join_shows, back_shows, push_shows, leave_shows, handed, stepped}
+use Rattle.outlook.proofs.Showing.{cursor_is, was_seen, letter_shows, note_shows, absorb_shows, join_shows, back_shows, push_shows, leave_shows, handed, stepped}
 
 module _ (w : Watching) (law : Lawful w) (good : List Bool) (x : Search) (m : Memory) (sh : Shows x m) (ok : Searching w good m) where
   -- There is room for a state that is new.
@@ -28,27 +27,12 @@ module _ (w : Watching) (law : Lawful w) (good : List Bool) (x : Search) (m : Me
     few : m.groups < 16384
     few = omega (arith, space, groups_le w law good m ok)
 
-    pub room : (length x.path.items < 16384) × (length x.bounds.items < 16384)
-    room = (omega (arith, space, sh.depth), omega (arith, few, sh.groups))
-
     shows : Shows (after_push x u) (pushed m u.number)
     shows = push_shows x m sh ok.sized u (sh.new u.number new) space few
 
     -- A search from one state more.
     pub visit_goes : x.here ≡ None → Goes w good (after_push x u)
     visit_goes idle = (pushed m u.number, shows, visit_push w law good m ok (sh.here ∙ ap upto idle) u.number within (sh.new u.number new))
-
-    in_seen : u.number < length m.seen
-    in_seen = omega (arith, u.within, ok.sized.seen)
-
-    pub visit_ran : (y : Search) → Ran w good (after_push x u) y → Ran w good x y × (standing y u.number ≢ New)
-    visit_ran y r = (
-      record {
-        goes = r.goes;
-        still_seen = λ z old. r.still_seen z (not_new (after_push x u) (pushed m u.number) shows z (still m.seen u.number z in_seen (was_seen x m sh z old)));
-      },
-      r.still_seen u.number (not_new (after_push x u) (pushed m u.number) shows u.number (at_same m.seen u.number true in_seen)),
-    )
 
   -- Every state was on the path, and the path is empty.
   pub told : x.here ≡ None → ((s : ℕ) → s < w.states → standing x s ≢ New) → (v : Bool) → Foresees w good v (at (cond v x.keepable x.breakable))
