@@ -8,7 +8,7 @@ ghost use Rattle.arrayvec.specs.ArrayVec.{array_vec_len};
 ghost use Rattle.watch.specs.Watchers.{Watching};
 ghost use Rattle.outlook.specs.inner.Tables.{item};
 ghost use Rattle.outlook.specs.inner.Showing.{Goes};
-ghost use Rattle.outlook.specs.inner.Memories.{stop, standing, cursor, after_letter, after_push, after_note, after_absorb, Dismissed, Joined, Left};
+ghost use Rattle.outlook.specs.inner.Memories.{stop, standing, cursor, after_letter, after_push, after_note, after_absorb, parent, Dismissed, Joined, Left};
 
 use crate::state::State;
 use crate::tables::{MOST_STATES, share};
@@ -90,6 +90,14 @@ impl Search {
         ensures { result ≡ stop self.now place }
     {
         self.path[usize::from(place)]
+    }
+
+    // The state at the place, if there is one.
+    fn state_at(&self, place: Option<u16>) -> Option<State>
+        requires { (p : ℕ) → place ≡ Some p → p < array_vec_len self.now.path }
+        ensures { result ≡ parent self.now place }
+    {
+        place.map(|place| self.stop(place).state)
     }
 
     // How the state stands to the path.
@@ -179,10 +187,7 @@ impl Search {
         ensures { Left self.old first self.new }
     {
         let from = self.stop(first).from;
-        let parent = match from {
-            Some(place) => Some(self.stop(place).state),
-            None => None,
-        };
+        let parent = self.state_at(from);
         let group = &self.path[usize::from(first)..];
         share(&mut self.keepable, group, parent);
         share(&mut self.breakable, group, parent);

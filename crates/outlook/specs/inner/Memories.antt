@@ -1,5 +1,6 @@
 -- What the steps of a search do to its memory. Assumes nothing.
-use Rattle.std.specs.Prelude.{◌≡◌, ℕ, ◌+◌, ◌-◌, ◌<◌, ◌≤◌, Bool, true, cond, ◌||◌, ◌⊎◌, List, [], ◌∷◌, ◌++◌, length, map, take, drop, slice_index_or, slice_set, Option, Some, None}
+use Rattle.std.specs.Prelude.{◌≡◌, ℕ, ◌+◌, ◌-◌, ◌<◌, ◌≤◌, Bool, true, cond, ◌||◌, ◌⊎◌, List, [], ◌∷◌, ◌++◌, length, map, take, drop, slice_index_or, slice_set, Option, Some}
+use Rattle.std.specs.Option.{option_map}
 use Rattle.outlook.specs.Outlooks.{at}
 use Rattle.outlook.specs.inner.Tables.{item, stop_at, In, Shared}
 use Rattle.outlook.specs.declared.state.State.{State}
@@ -84,8 +85,7 @@ pub record Joined (x : Search) (place : ℕ) (y : Search) : Type 0 where
 
 -- The state at the place, if there is one.
 abbrev pub parent : Search → Option ℕ → Option State
-parent x None = None
-parent x (Some p) = Some (stop x p).state
+parent x place = option_map (λ p. (stop x p).state) place
 
 -- The last group left the path, and its knowledge is shared.
 pub record Left (x : Search) (first : ℕ) (y : Search) : Type 0 where
