@@ -4,11 +4,10 @@ use Rattle.std.proofs.lemmas.Bool.{cases_eq, both_ways}
 use Rattle.watch.specs.Watchers.{Watching, Lawful}
 use Rattle.outlook.specs.Outlooks.{at}
 use Rattle.outlook.specs.inner.Tables.{item}
-use Rattle.outlook.specs.inner.Searching.{on, Went, Searching, advanced}
-use Rattle.outlook.specs.declared.search.Search.{Search}
+use Rattle.outlook.specs.inner.Searching.{Memory, on, Went, Searching, advanced}
 use Rattle.outlook.proofs.Basics.{item_same, item_other, unique}
 
-module _ (w : Watching) (law : Lawful w) (good : List Bool) (x : Search) (ok : Searching w good x) (p : ℕ) (lt : p < x.depth) where
+module _ (w : Watching) (law : Lawful w) (good : List Bool) (x : Memory) (ok : Searching w good x) (p : ℕ) (lt : p < x.depth) where
   abbrev c : ℕ
   c = item x.cursor (on x p)
 

@@ -7,8 +7,7 @@ use Rattle.watch.specs.Watchers.{Watching, Lawful}
 use Rattle.outlook.specs.Outlooks.{at}
 use Rattle.outlook.specs.inner.Ways.{Leads}
 use Rattle.outlook.specs.inner.Tables.{item}
-use Rattle.outlook.specs.inner.Searching.{trues, on, bound, Held, Gone, Searching}
-use Rattle.outlook.specs.declared.search.Search.{Search}
+use Rattle.outlook.specs.inner.Searching.{Memory, trues, on, bound, Held, Gone, Searching}
 
 pub at_same : (table : List Bool) (i : ℕ) (b : Bool) → i < length table → at (set table i b) i ≡ b
 at_same table i b lt = get_or-set_same table i b false lt
@@ -36,7 +35,7 @@ pub for_both : (P : Bool → Type 0) → P true → P false → (v : Bool) → P
 for_both P t f true = t
 for_both P t f false = f
 
-module _ (w : Watching) (law : Lawful w) (good : List Bool) (x : Search) (ok : Searching w good x) where
+module _ (w : Watching) (law : Lawful w) (good : List Bool) (x : Memory) (ok : Searching w good x) where
   pub depth_fits : x.depth ≤ 16384
   depth_fits = omega (arith, ok.room, count_by-le-length (λ b. b) x.seen, ok.sized.seen)
 

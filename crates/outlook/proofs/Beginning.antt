@@ -1,24 +1,30 @@
 -- The start and the end of a search.
-use Rattle.std.proofs.Common.{◌≡◌, ℕ, ◌<◌, ◌≤◌, Bool, true, false, cond, List, length, sym, ap, ◌∙◌, subst, arith}
+use Rattle.std.proofs.Common.{◌≡◌, ℕ, ◌<◌, ◌≤◌, Bool, true, false, cond, List, replicate, ⊎_elim, sym, subst, arith}
 use native.Mathlib.Nat.{pow-le-pow_right}
-use Rattle.std.proofs.lemmas.Bool.{both_ways}
+use Rattle.std.proofs.lemmas.List.{get_or-replicate, get_or_past}
+use Rattle.std.proofs.lemmas.Bool.{both_ways, cases_lt}
 use Rattle.watch.specs.Letters.{letter_count, digits}
 use Rattle.watch.specs.Watchers.{Watching, Lawful}
 use Rattle.outlook.specs.Outlooks.{at, Foresees}
 use Rattle.outlook.specs.inner.Ways.{Known}
 use Rattle.outlook.specs.inner.Tables.{item}
-use Rattle.outlook.specs.inner.Searching.{known, Gone, Sized, Searching, Ran, pushed}
-use Rattle.outlook.specs.declared.search.Search.{Search}
-use Rattle.outlook.proofs.Basics.{at_same, for_both}
-use Rattle.outlook.proofs.Sharing.{still}
+use Rattle.outlook.specs.inner.Searching.{Memory, known, Gone, Sized, Searching, pushed}
+use Rattle.outlook.proofs.Basics.{for_both}
 use Rattle.outlook.proofs.Resting.{foresees}
 use Rattle.outlook.proofs.Pushing.{push_ok}
 
 pub few_letters : (w : Watching) → Lawful w → letter_count w.events ≤ 243
 few_letters w law = pow-le-pow_right {n = digits} (omega arith) law.few_events
 
+-- A new table has no state in it, and a new list of numbers is 0 everywhere.
+pub blank : (s : ℕ) → at (replicate 16384 false) s ≡ false
+blank s = ⊎_elim (λ lt. get_or-replicate 16384 s false false lt) (λ le. get_or_past (replicate 16384 false) s false le) (cases_lt s 16384)
+
+pub zeros : (s : ℕ) → item (replicate 16384 0) s ≡ 0
+zeros s = ⊎_elim (λ lt. get_or-replicate 16384 s 0 0 lt) (λ le. get_or_past (replicate 16384 0) s 0 le) (cases_lt s 16384)
+
 -- A search with nothing on its path.
-pub begin_ok : (w : Watching) (good : List Bool) (x : Search) → Sized x → ((s : ℕ) → at x.keepable s ≡ false) → ((s : ℕ) → at x.breakable s ≡ false) → ((s : ℕ) → at x.seen s ≡ false) → ((s : ℕ) → item x.cursor s ≡ 0) → x.depth ≡ 0 → x.groups ≡ 0 → x.here ≡ 0 → Searching w good x
+pub begin_ok : (w : Watching) (good : List Bool) (x : Memory) → Sized x → ((s : ℕ) → at x.keepable s ≡ false) → ((s : ℕ) → at x.breakable s ≡ false) → ((s : ℕ) → at x.seen s ≡ false) → ((s : ℕ) → item x.cursor s ≡ 0) → x.depth ≡ 0 → x.groups ≡ 0 → x.here ≡ 0 → Searching w good x
 begin_ok w good x sized none-k none-b unseen zero flat ungrouped idle = record {
   sized = sized;
   room = omega (arith, flat);
@@ -45,22 +51,10 @@ begin_ok w good x sized none-k none-b unseen zero flat ungrouped idle = record {
   fresh = λ s _. zero s;
 }
 
-module _ (w : Watching) (law : Lawful w) (good : List Bool) (x : Search) (ok : Searching w good x) (idle : x.here ≡ 0) where
+module _ (w : Watching) (law : Lawful w) (good : List Bool) (x : Memory) (ok : Searching w good x) (idle : x.here ≡ 0) where
   -- A search from one state more.
   pub visit_push : (u : ℕ) → u < w.states → at x.seen u ≡ false → Searching w good (pushed x u)
   visit_push u within new = push_ok w law good x ok u within new (λ j lt. absurd (omega (arith, lt, ok.empty idle)))
-
-  pub visit_ran : (u : ℕ) → u < w.states → (v y : Search) → v ≡ pushed x u → Ran w good v y → Ran w good x y × (at y.seen u ≡ true)
-  visit_ran u within v y is r = (
-    record {
-      goes = r.goes;
-      still_seen = λ z e. r.still_seen z (ap (λ (q : Search). at q.seen z) is ∙ still x.seen u z fits e);
-    },
-    r.still_seen u (ap (λ (q : Search). at q.seen u) is ∙ at_same x.seen u true fits),
-  )
-    where
-      fits : u < length x.seen
-      fits = omega (arith, within, law.few_states, ok.sized.seen)
 
   -- Every state was seen, so every state is gone.
   module _ (all : (s : ℕ) → s < w.states → at x.seen s ≡ true) where

@@ -3,12 +3,11 @@ use Rattle.std.proofs.Common.{◌≡◌, ℕ, zero, suc, ◌+◌, ◌<◌, ◌�
 use Rattle.std.proofs.lemmas.Bool.{cases_eq, cases_lt}
 use Rattle.watch.specs.Watchers.{Watching, Lawful}
 use Rattle.outlook.specs.inner.Ways.{Leads}
-use Rattle.outlook.specs.inner.Searching.{on, bound, Own, Inward, Searching, stood}
-use Rattle.outlook.specs.declared.search.Search.{Search}
+use Rattle.outlook.specs.inner.Searching.{Memory, on, bound, Own, Inward, Searching, stood}
 use Rattle.outlook.proofs.Basics.{leads_here}
 use Rattle.outlook.proofs.Ways.{leads_on}
 
-module _ (w : Watching) (law : Lawful w) (good : List Bool) (x : Search) (ok : Searching w good x) where
+module _ (w : Watching) (law : Lawful w) (good : List Bool) (x : Memory) (ok : Searching w good x) where
   -- The last group becomes part of the one before. Place t is looked at, and leads to place k before the last group.
   pub join_ok : (m t k : ℕ) → x.groups ≡ m + 1 → x.here ≡ t + 1 → k < x.depth → k < bound x m → Leads w (on x t) (on x k) → Own w good x (on x t) → Searching w good (stood x x.depth m x.here)
   join_ok m t k count is under before way own = record {
@@ -47,7 +46,7 @@ module _ (w : Watching) (law : Lawful w) (good : List Bool) (x : Search) (ok : S
           leads_on w _ _ _ (leads_here w law good x ok t is j a) (leads_on w _ _ _ way (ok.leads k n under b (all_inward k n (λ i some le. into i some (omega (arith, le))) (λ le. absurd (omega (arith, le, before))))))
 
 -- Any number of groups, from the last on.
-pub joins_ok : (w : Watching) → Lawful w → (good : List Bool) (x : Search) (m t k n : ℕ) → Searching w good (stood x x.depth (m + n) x.here) → x.here ≡ t + 1 → k < x.depth → ((i : ℕ) → m ≤ i → i < m + n → k < bound x i) → Leads w (on x t) (on x k) → Own w good x (on x t) → Searching w good (stood x x.depth m x.here)
+pub joins_ok : (w : Watching) → Lawful w → (good : List Bool) (x : Memory) (m t k n : ℕ) → Searching w good (stood x x.depth (m + n) x.here) → x.here ≡ t + 1 → k < x.depth → ((i : ℕ) → m ≤ i → i < m + n → k < bound x i) → Leads w (on x t) (on x k) → Own w good x (on x t) → Searching w good (stood x x.depth m x.here)
 joins_ok w law good x m t k zero ok is under before way own =
     let e : m + 0 ≡ m = omega arith in
     subst (λ (g : ℕ). Searching w good (stood x x.depth g x.here)) e ok

@@ -4,11 +4,10 @@ use Rattle.std.proofs.lemmas.Bool.{both_ways}
 use Rattle.watch.specs.Watchers.{Watching}
 use Rattle.outlook.specs.Outlooks.{at}
 use Rattle.outlook.specs.inner.Ways.{Reaches, Stays}
-use Rattle.outlook.specs.inner.Searching.{known, Held, Gone, Searching, learned}
-use Rattle.outlook.specs.declared.search.Search.{Search}
+use Rattle.outlook.specs.inner.Searching.{Memory, known, Held, Gone, Searching, learned}
 use Rattle.outlook.proofs.Basics.{out}
 
-module _ (w : Watching) (good : List Bool) (x : Search) (ok : Searching w good x) (keepable breakable : List Bool) where
+module _ (w : Watching) (good : List Bool) (x : Memory) (ok : Searching w good x) (keepable breakable : List Bool) where
   abbrev newly : Bool → ℕ → Bool
   newly v z = at (cond v keepable breakable) z
 

@@ -6,12 +6,11 @@ use Rattle.watch.specs.Watchers.{Watching, Lawful}
 use Rattle.outlook.specs.Outlooks.{at}
 use Rattle.outlook.specs.inner.Ways.{value, Dies, dies}
 use Rattle.outlook.specs.inner.Tables.{item}
-use Rattle.outlook.specs.inner.Searching.{on, bound, known, Held, Gone, Inward, Spent, Searching, stood}
-use Rattle.outlook.specs.declared.search.Search.{Search}
+use Rattle.outlook.specs.inner.Searching.{Memory, on, bound, known, Held, Gone, Inward, Spent, Searching, stood}
 use Rattle.outlook.proofs.Basics.{out, unique, leads_last, gone_or_held}
 use Rattle.outlook.proofs.Ways.{same_shown}
 
-module _ (w : Watching) (law : Lawful w) (good : List Bool) (x : Search) (ok : Searching w good x) (p : ℕ) (is : x.here ≡ p + 1) (done : Spent w x (on x p)) where
+module _ (w : Watching) (law : Lawful w) (good : List Bool) (x : Memory) (ok : Searching w good x) (p : ℕ) (is : x.here ≡ p + 1) (done : Spent w x (on x p)) where
   under : p < x.depth
   under = omega (arith, ok.top)
 
@@ -49,7 +48,7 @@ module _ (w : Watching) (law : Lawful w) (good : List Bool) (x : Search) (ok : S
 
   -- The place is the first of the last group, and the group knows as much as each of its states.
   module _ (m : ℕ) (count : x.groups ≡ m + 1) (start : bound x m ≡ p) (even : (v : Bool) (j k : ℕ) → p ≤ j → j < x.depth → p ≤ k → k < x.depth → known x v (on x j) ≡ true → known x v (on x k) ≡ true) where
-    abbrev y : Search
+    abbrev y : Memory
     y = stood x p m (item x.resume p)
 
     at_last : (j : ℕ) → p ≤ j → (i : ℕ) → i < x.groups → bound x i ≤ j

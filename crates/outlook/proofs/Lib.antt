@@ -10,3 +10,7 @@ pub mod Leaving
 pub mod Noting
 pub mod Stepping
 pub mod Beginning
+pub mod Dismissing
+pub mod Showing
+pub mod Steps
+pub mod Following

@@ -5,16 +5,15 @@ use Rattle.watch.specs.Watchers.{Watching, Lawful}
 use Rattle.outlook.specs.Outlooks.{at}
 use Rattle.outlook.specs.inner.Ways.{Leads}
 use Rattle.outlook.specs.inner.Tables.{item}
-use Rattle.outlook.specs.inner.Searching.{on, bound, Held, Gone, Own, Inward, Opens, Went, Spent, Searching, pushed}
-use Rattle.outlook.specs.declared.search.Search.{Search}
+use Rattle.outlook.specs.inner.Searching.{Memory, on, bound, Held, Gone, Own, Inward, Opens, Went, Spent, Searching, pushed}
 use Rattle.outlook.proofs.Basics.{at_same, at_other, item_same, item_other, trues_add, room_left, groups_le}
 use Rattle.outlook.proofs.Ways.{leads-refl}
 
-module _ (w : Watching) (law : Lawful w) (good : List Bool) (x : Search) (ok : Searching w good x) (u : ℕ) (within : u < w.states) (new : at x.seen u ≡ false) where
+module _ (w : Watching) (law : Lawful w) (good : List Bool) (x : Memory) (ok : Searching w good x) (u : ℕ) (within : u < w.states) (new : at x.seen u ≡ false) where
   abbrev d : ℕ
   d = x.depth
 
-  abbrev y : Search
+  abbrev y : Memory
   y = pushed x u
 
   fits : u < length x.seen

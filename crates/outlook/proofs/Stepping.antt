@@ -7,9 +7,8 @@ use Rattle.watch.specs.Watchers.{Watching, Lawful}
 use Rattle.outlook.specs.Outlooks.{at}
 use Rattle.outlook.specs.inner.Ways.{Reaches, here, step, Leads, value, Stays}
 use Rattle.outlook.specs.inner.Tables.{item}
-use Rattle.outlook.specs.inner.Searching.{on, bound, known, Held, Gone, Opens, Spent, Searching, Joined, Left, Stepped, pushed, moved, advanced, learned, noted, absorbed, stood}
-use Rattle.outlook.specs.declared.search.Search.{Search}
-use Rattle.outlook.proofs.Basics.{item_same, item_other, for_both, room_left, groups_le, leads_last, leads_here, depth_fits}
+use Rattle.outlook.specs.inner.Searching.{Memory, on, bound, known, Held, Gone, Opens, Spent, Searching, Handed, Onward, pushed, advanced, learned, noted, absorbed, stood}
+use Rattle.outlook.proofs.Basics.{item_same, item_other, for_both, room_left, groups_le, leads_last, leads_here}
 use Rattle.outlook.proofs.Sharing.{still}
 use Rattle.outlook.proofs.Noting.{joint_kept, joint_only, joint_told, noted_kept, noted_only, noted_own, noted_keepable, noted_breakable}
 use Rattle.outlook.proofs.Ways.{leads_on, leads_to, leads_step}
@@ -23,7 +22,7 @@ use Rattle.outlook.proofs.Leaving.{back_ok, leave_ok}
 fewer : (g : ℕ) (cursor : List ℕ) (s : ℕ) → s < length cursor → item cursor s < g → sum_by (λ c. g - c) (set cursor s (item cursor s + 1)) + 1 ≡ sum_by (λ c. g - c) cursor
 fewer g cursor s fits more = omega (arith, sum_by-set (λ c. g - c) cursor s (item cursor s + 1) 0 fits)
 
-module _ (w : Watching) (law : Lawful w) (good : List Bool) (x : Search) (ok : Searching w good x) (t : ℕ) (is : x.here ≡ t + 1) where
+module _ (w : Watching) (law : Lawful w) (good : List Bool) (x : Memory) (ok : Searching w good x) (t : ℕ) (is : x.here ≡ t + 1) where
   under : t < x.depth
   under = omega (arith, ok.top)
 
@@ -33,11 +32,8 @@ module _ (w : Watching) (law : Lawful w) (good : List Bool) (x : Search) (ok : S
   pub state_fits : on x t < 16384
   state_fits = omega (arith, ok.within t under, law.few_states)
 
-  pub place_fits : t < 16384
-  place_fits = omega (arith, under, depth_fits w law good x ok)
-
   -- No letter is left, and the place is inside its group.
-  pub step_back : (bound x (x.groups - 1) ≡ t → ⊥) → Spent w x (on x t) → Stepped w good x (stood x x.depth x.groups (item x.resume t))
+  pub step_back : (bound x (x.groups - 1) ≡ t → ⊥) → Spent w x (on x t) → Onward w good x (stood x x.depth x.groups (item x.resume t))
   step_back ne done = record {
     goes = back_ok w law good x ok t is done inside;
     still_seen = λ z e. e;
@@ -50,28 +46,27 @@ module _ (w : Watching) (law : Lawful w) (good : List Bool) (x : Search) (ok : S
           ⊎_elim (λ e. omega (arith, ap (bound x) e, ne, last, is)) (λ other. omega (arith, last, is, ne, ok.rising i (x.groups - 1) (omega (arith, other)) (omega arith))) (cases_eq i (x.groups - 1))
 
   -- No letter is left, and the place is the first of the last group.
-  module _ (y : Search) (l : Left x t y) where
-    abbrev x₀ : Search
-    x₀ = learned x y.keepable y.breakable
+  module _ (keepable breakable : List Bool) (l : Handed x t keepable breakable) where
+    abbrev x₀ : Memory
+    x₀ = learned x keepable breakable
 
     -- What the group hands on is true of all its states, and of the one that it was taken from.
-    told_of : (v : Bool) (z : ℕ) → ((k : ℕ) × (t ≤ k) × (k < x.depth) × (known x v (on x k) ≡ true)) → ((k : ℕ) × (((t ≤ k) × (k < x.depth)) ⊎ (item x.resume t ≡ k + 1)) × (on x k ≡ z)) → ((k : ℕ) × Held x k z) × Reaches w (Stays w good v) z
-    told_of v z from to =
-        let low : to.0 < x.depth = ⊎_elim (λ h. h.1) (λ e. omega (arith, e, ok.resume_le t under, under)) to.1 in (
-          (to.0, (low, to.2)),
-          subst (Reaches w (Stays w good v)) to.2 (leads_to w _ (on x from.0) (leads_last w law good x ok to.0 from.0 low from.2 (λ i some. omega (arith, ok.below i some, is, from.1))) (ok.sound v _ from.3)),
-        )
+    told_of : (v : Bool) (z : ℕ) → ((k : ℕ) × (t ≤ k) × (k < x.depth) × (known x v (on x k) ≡ true)) × ((k : ℕ) × Held x k z) → ((k : ℕ) × Held x k z) × Reaches w (Stays w good v) z
+    told_of v z h = (
+      h.1,
+      subst (Reaches w (Stays w good v)) h.1.1.1 (leads_to w _ (on x h.0.0) (leads_last w law good x ok h.1.0 h.0.0 h.1.1.0 h.0.2 (λ i some. omega (arith, ok.below i some, is, h.0.1))) (ok.sound v _ h.0.3)),
+    )
 
     ok₀ : Searching w good x₀
     ok₀ =
-        learn_ok w good x ok y.keepable y.breakable (l.long_keepable ∙ ok.sized.keepable) (l.long_breakable ∙ ok.sized.breakable) (for_both _ l.keepable.kept l.breakable.kept) (for_both _ (λ z e. ⊎_elim (λ old. inl old) (λ h. inr (told_of true z h.0 h.1)) (l.keepable.only z e)) (λ z e. ⊎_elim (λ old. inl old) (λ h. inr (told_of false z h.0 h.1)) (l.breakable.only z e)))
+        learn_ok w good x ok keepable breakable (l.long_keepable ∙ ok.sized.keepable) (l.long_breakable ∙ ok.sized.breakable) l.kept (λ v z e. ⊎_elim (λ old. inl old) (λ h. inr (told_of v z h)) (l.only v z e))
 
-    pub step_leave : bound x (x.groups - 1) ≡ t → Spent w x (on x t) → Stepped w good x y
-    step_leave start done = subst (λ (z : Search). Stepped w good x z) (sym l.same) (record {
-      goes = leave_ok w law good x₀ ok₀ t is done (x.groups - 1) (omega (arith, (ok.first (omega (arith, under))).0)) start (for_both _ l.keepable.even l.breakable.even) (for_both _ l.keepable.told l.breakable.told);
+    pub step_leave : bound x (x.groups - 1) ≡ t → Spent w x (on x t) → Onward w good x (stood (learned x keepable breakable) t (x.groups - 1) (item x.resume t))
+    step_leave start done = record {
+      goes = leave_ok w law good x₀ ok₀ t is done (x.groups - 1) (omega (arith, (ok.first (omega (arith, under))).0)) start l.even l.told;
       still_seen = λ z e. e;
       less = omega (arith, is, ok.resume_le t under);
-    })
+    }
 
   module _ (more : item x.cursor (on x t) < letter_count w.events) where
     abbrev u : ℕ
@@ -85,7 +80,7 @@ module _ (w : Watching) (law : Lawful w) (good : List Bool) (x : Search) (ok : S
 
     -- The letter leads to a state that was never seen.
     module _ (new : at x.seen u ≡ false) where
-      abbrev pu : Search
+      abbrev pu : Memory
       pu = pushed x u
 
       space : x.depth < 16384
@@ -112,7 +107,7 @@ module _ (w : Watching) (law : Lawful w) (good : List Bool) (x : Search) (ok : S
       opens i some le after =
           ⊎_elim (λ old. absurd (omega (arith, after, item_other x.bounds x.groups i x.depth (λ e. omega (arith, e, old)), ok.below i old, is))) (λ last. (bound_new i (omega (arith, last, some)), resume_new ∙ is)) (cases_lt i x.groups)
 
-      pub step_new : Stepped w good x (advanced (pushed x u) (on x t))
+      pub step_new : Onward w good x (advanced (pushed x u) (on x t))
       step_new = record {
         goes = subst (λ (z : ℕ). Searching w good (advanced pu z)) path_old (advance_ok w law good pu pushed_ok t (omega (arith, under)) (inr (x.depth, (omega arith, path_new ∙ sym (ap (λ (z : ℕ). w.next z (item x.cursor z)) path_old)), (λ i some le. omega (arith, le, under)), opens, (λ e. absurd (omega (arith, e, under))))));
         still_seen = λ z e. still x.seen u z (omega (arith, law.next_within (on x t) (item x.cursor (on x t)), law.few_states, ok.sized.seen)) e;
@@ -127,7 +122,7 @@ module _ (w : Watching) (law : Lawful w) (good : List Bool) (x : Search) (ok : S
       in_b : on x t < length x.breakable
       in_b = omega (arith, state_fits, ok.sized.breakable)
 
-      abbrev x₂ : Search
+      abbrev x₂ : Memory
       x₂ = absorbed x (on x t) u
 
       took : (v : Bool) (z : ℕ) → (known x v z ≡ true) ⊎ ((z ≡ on x t) × (known x v u ≡ true)) → (known x v z ≡ true) ⊎ (((j : ℕ) × Held x j z) × Reaches w (Stays w good v) z)
@@ -138,7 +133,7 @@ module _ (w : Watching) (law : Lawful w) (good : List Bool) (x : Search) (ok : S
       ok₂ =
           learn_ok w good x ok x₂.keepable x₂.breakable (length-set x.keepable (on x t) _ ∙ ok.sized.keepable) (length-set x.breakable (on x t) _ ∙ ok.sized.breakable) (for_both _ (joint_kept x.keepable (on x t) u in_k) (joint_kept x.breakable (on x t) u in_b)) (for_both _ (λ z e. took true z (joint_only x.keepable (on x t) u in_k z e)) (λ z e. took false z (joint_only x.breakable (on x t) u in_b z e)))
 
-      pub step_gone : Stepped w good x (advanced (absorbed x (on x t) u) (on x t))
+      pub step_gone : Onward w good x (advanced (absorbed x (on x t) u) (on x t))
       step_gone = record {
         goes = advance_ok w law good x₂ ok₂ t under (inl (gone, for_both _ (joint_told x.keepable (on x t) u in_k) (joint_told x.breakable (on x t) u in_b)));
         still_seen = λ z e. e;
@@ -150,7 +145,7 @@ module _ (w : Watching) (law : Lawful w) (good : List Bool) (x : Search) (ok : S
       abbrev g : Bool
       g = value w good (on x t)
 
-      abbrev x₁ : Search
+      abbrev x₁ : Memory
       x₁ = noted x (on x t) g
 
       fits_k : on x t < length x.keepable
@@ -169,25 +164,19 @@ module _ (w : Watching) (law : Lawful w) (good : List Bool) (x : Search) (ok : S
       own : known x₁ g (on x t) ≡ true
       own = noted_own x.keepable x.breakable (on x t) fits_k fits_b g
 
-      abbrev x₃ : Search
-      x₃ = moved x₁ (on x t) (item x.cursor (on x t) + 1)
-
-      module _ (y : Search) (j : Joined x₃ k y) (last : bound x₁ (y.groups - 1) ≤ k) where
-        joined_ok : Searching w good (stood x₁ x.depth y.groups x.here)
+      module _ (n : ℕ) (some : 0 < n) (fewer : n ≤ x.groups) (after : (i : ℕ) → n ≤ i → i < x.groups → k < bound x i) (last : bound x (n - 1) ≤ k) where
+        joined_ok : Searching w good (stood x₁ x.depth n x.here)
         joined_ok =
-            let all : x.groups ≡ y.groups + (x.groups - y.groups) = omega (arith, j.fewer) in
-            joins_ok w law good x₁ y.groups t k (x.groups - y.groups) (subst (λ (n : ℕ). Searching w good (stood x₁ x.depth n x.here)) all ok₁) is held.0 (λ i le lt. j.after i le (omega (arith, lt, all))) (subst (λ (z : ℕ). Leads w (on x t) z) (sym held.1) way) own
+            let all : x.groups ≡ n + (x.groups - n) = omega (arith, fewer) in
+            joins_ok w law good x₁ n t k (x.groups - n) (subst (λ (g : ℕ). Searching w good (stood x₁ x.depth g x.here)) all ok₁) is held.0 (λ i le lt. after i le (omega (arith, lt, all))) (subst (λ (z : ℕ). Leads w (on x t) z) (sym held.1) way) own
 
-        low : (i : ℕ) → i < y.groups → bound x i ≤ k
-        low i some =
-            ⊎_elim (λ e. omega (arith, ap (bound x) e, last)) (λ ne. omega (arith, last, ok.rising i (y.groups - 1) (omega (arith, ne, some)) (omega (arith, j.some, j.fewer)))) (cases_eq i (y.groups - 1))
+        low : (i : ℕ) → i < n → bound x i ≤ k
+        low i lt =
+            ⊎_elim (λ e. omega (arith, ap (bound x) e, last)) (λ ne. omega (arith, last, ok.rising i (n - 1) (omega (arith, ne, lt)) (omega (arith, some, fewer)))) (cases_eq i (n - 1))
 
-        step_joined : Stepped w good x y
-        step_joined = subst (λ (z : Search). Stepped w good x z) (sym j.same) (record {
-          goes = advance_ok w law good (stood x₁ x.depth y.groups x.here) joined_ok t under (inr (k, held, (λ i some _. low i some), (λ i some _ after. absurd (omega (arith, after, ok.below i (omega (arith, some, j.fewer)), is))), λ _. own));
+        pub step_held : Onward w good x (advanced (stood x₁ x.depth n x.here) (on x t))
+        step_held = record {
+          goes = advance_ok w law good (stood x₁ x.depth n x.here) joined_ok t under (inr (k, held, (λ i lt _. low i lt), (λ i lt _ beyond. absurd (omega (arith, beyond, ok.below i (omega (arith, lt, fewer)), is))), λ _. own));
           still_seen = λ z e. e;
           less = omega (arith, counted);
-        })
-
-      pub step_held : (x' y : Search) → x' ≡ x₃ → Joined x' k y → bound x' (y.groups - 1) ≤ k → Stepped w good x y
-      step_held x' y e = subst (λ (z : Search). Joined z k y → bound z (y.groups - 1) ≤ k → Stepped w good x y) (sym e) (step_joined y)
+        }

@@ -5,6 +5,7 @@
 mod chart;
 mod looking;
 mod search;
+mod state;
 mod tables;
 
 pub use chart::Outlook;

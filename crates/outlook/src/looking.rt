@@ -2,112 +2,111 @@
 //
 // Marks only grow, so states that lead to each other show the same marks, and a run can stay at the marks of a state
 // for ever exactly where the state leads back to itself. Each letter of each state is followed once.
-ghost use Rattle.std.specs.Prelude.{◌≡◌, ◌-◌, ◌<◌, Bool, true, false, List};
+ghost use Rattle.std.specs.Prelude.{◌≡◌, ◌≢◌, ◌<◌, true, false};
 ghost use Rattle.watch.specs.Letters.{letter_count};
-ghost use Rattle.watch.specs.Watchers.{Watching};
 ghost use Rattle.outlook.specs.Outlooks.{at, Foresees};
-ghost use Rattle.outlook.specs.inner.Tables.{item};
-ghost use Rattle.outlook.specs.inner.Searching.{on, Searching, Stepped, Ran};
+ghost use Rattle.outlook.specs.inner.Memories.{standing, cursor};
+ghost use Rattle.outlook.specs.declared.search.Standing.TheVariants.{New};
+ghost use Rattle.outlook.specs.inner.Showing.{Goes, LookedAt, Stepped, Ran};
 
 use crate::chart::Outlook;
-use crate::search::Search;
-use crate::tables::{MARK_SETS, nowhere, zeros};
+use crate::search::{Search, Standing};
+use crate::state::State;
+use crate::tables::MARK_SETS;
 use watch::Watcher;
 
-impl Search {
-    // A search with nothing on its path.
-    fn begin() -> Search
-        ensures idle { result.here ≡ 0 }
-        ensures goes { (w : Watching) (good : List Bool) → Searching w good result }
+// What a search goes by: the letters of a watcher, and which sets of marks are good.
+struct Guide<'a, W: Watcher> {
+    watcher: &'a W,
+    good: &'a [bool; MARK_SETS],
+    letters: u16,
+    ghost all: { letters ≡ letter_count (W.watching watcher.now).events },
+}
+
+// A derive would ask it of the watcher too, which is only borrowed.
+impl<'a, W: Watcher> Drop for Guide<'a, W> {
+    fn drop(self) {
+        let Guide {
+            watcher: _,
+            good: _,
+            letters: _,
+        } = self;
+    }
+}
+
+// Each method asks that the search goes well so far. As a fact of a struct that holds the search beside the watcher it
+// would be no plainer: it holds ways along the letters, so it would be truncated, and each method would have to
+// promise that the watcher stays.
+impl<'a, W: Watcher> Guide<'a, W> {
+    // The state to which the letter leads.
+    fn next(&self, state: State, letter: u16) -> State
+        ensures { result.number ≡ (W.watching self.now.watcher.now).next state.number letter }
     {
-        Search {
-            keepable: nowhere(),
-            breakable: nowhere(),
-            seen: nowhere(),
-            cursor: zeros(),
-            path: zeros(),
-            place: zeros(),
-            resume: zeros(),
-            bounds: zeros(),
-            depth: 0,
-            groups: 0,
-            here: 0,
+        State {
+            number: self.watcher.next(state.number, letter),
         }
     }
 
-    // Follows the next letter of the state at the place that is looked at.
-    fn look<W: Watcher>(&mut self, watcher: &W, good: &[bool; MARK_SETS])
-        requires goes { Searching (W.watching watcher.now) good.now self.old }
-        requires some { 0 < self.old.here }
-        requires more { item self.old.cursor (on self.old (self.old.here - 1)) < letter_count (W.watching watcher.now).events }
-        ensures { Stepped (W.watching watcher.now) good.now self.old self.new }
+    // Follows the next letter of the state, which stands at the place that is looked at.
+    fn look(&self, search: &mut Search, state: State)
+        requires goes { Goes (W.watching self.now.watcher.now) self.now.good.now search.old }
+        requires looked { LookedAt search.old state }
+        requires more { cursor search.old state.number < self.now.letters }
+        ensures { Stepped (W.watching self.now.watcher.now) self.now.good.now search.old search.new }
     {
-        let place = self.here - 1;
-        let state = self.path[place as usize];
-        let letter = self.cursor[state as usize];
-        let next = watcher.next(state, letter);
-        self.cursor[state as usize] = letter + 1;
-        if !self.seen[next as usize] {
-            self.push(next);
-            return;
+        let letter = search.take_letter(state);
+        let next = self.next(state, letter);
+        match search.standing(next) {
+            Standing::New => search.push(next),
+            Standing::At(back) => {
+                let marks = self.watcher.shown(state.number);
+                search.note(state, self.good[usize::from(marks.bits)]);
+                search.join(back);
+            }
+            Standing::Gone => search.absorb(state, next),
         }
-        if self.stands(next) {
-            let back = self.place[next as usize];
-            let marks = watcher.shown(state);
-            self.note(state, good[marks.bits as usize]);
-            self.join(back);
-            return;
-        }
-        self.absorb(state, next);
     }
 
-    // One step: a letter more, or a place less.
-    fn step<W: Watcher>(&mut self, watcher: &W, good: &[bool; MARK_SETS], letters: u16)
-        requires all { letters ≡ letter_count (W.watching watcher.now).events }
-        requires goes { Searching (W.watching watcher.now) good.now self.old }
-        requires some { 0 < self.old.here }
-        ensures { Stepped (W.watching watcher.now) good.now self.old self.new }
+    // One step at the place that is looked at: a letter more, or a place less.
+    fn step(&self, search: &mut Search, place: u16)
+        requires goes { Goes (W.watching self.now.watcher.now) self.now.good.now search.old }
+        requires here { search.old.here ≡ Some place }
+        ensures { Stepped (W.watching self.now.watcher.now) self.now.good.now search.old search.new }
     {
-        let place = self.here - 1;
-        let state = self.path[place as usize];
-        if self.cursor[state as usize] < letters {
-            self.look(watcher, good);
-            return;
+        let stop = search.stop(place);
+        if search.cursor(stop.state) < self.letters {
+            self.look(search, stop.state);
+        } else if search.opens(place) {
+            search.leave(place);
+        } else {
+            search.here = stop.from;
         }
-        if self.bounds[self.groups as usize - 1] == place {
-            self.leave(place);
-            return;
-        }
-        self.here = self.resume[place as usize];
     }
 
     // Goes on until the path is empty.
-    fn run<W: Watcher>(&mut self, watcher: &W, good: &[bool; MARK_SETS], letters: u16)
-        requires all { letters ≡ letter_count (W.watching watcher.now).events }
-        requires goes { Searching (W.watching watcher.now) good.now self.old }
-        ensures idle { self.new.here ≡ 0 }
-        ensures ran { Ran (W.watching watcher.now) good.now self.old self.new }
+    fn run(&self, search: &mut Search)
+        requires goes { Goes (W.watching self.now.watcher.now) self.now.good.now search.old }
+        ensures idle { search.new.here ≡ None }
+        ensures ran { Ran (W.watching self.now.watcher.now) self.now.good.now search.old search.new }
     {
-        while self.here > 0 {
-            self.step(watcher, good, letters);
+        while let Some(place) = search.here {
+            self.step(search, place);
         }
     }
 
-    // Searches from the state, unless it was seen.
-    fn visit<W: Watcher>(&mut self, watcher: &W, good: &[bool; MARK_SETS], letters: u16, state: u16)
-        requires all { letters ≡ letter_count (W.watching watcher.now).events }
-        requires goes { Searching (W.watching watcher.now) good.now self.old }
-        requires idle { self.old.here ≡ 0 }
-        requires within { state < (W.watching watcher.now).states }
-        ensures idle { self.new.here ≡ 0 }
-        ensures ran { Ran (W.watching watcher.now) good.now self.old self.new }
-        ensures seen { at self.new.seen state ≡ true }
+    // Searches from the state, unless it was on the path before.
+    fn visit(&self, search: &mut Search, state: State)
+        requires goes { Goes (W.watching self.now.watcher.now) self.now.good.now search.old }
+        requires idle { search.old.here ≡ None }
+        requires within { state.number < (W.watching self.now.watcher.now).states }
+        ensures idle { search.new.here ≡ None }
+        ensures ran { Ran (W.watching self.now.watcher.now) self.now.good.now search.old search.new }
+        ensures seen { standing search.new state.number ≢ New }
     {
-        if self.seen[state as usize] {
-            return;
+        if let Standing::New = search.standing(state) {
+            search.push(state);
+            self.run(search);
         }
-        self.push(state);
-        self.run(watcher, good, letters);
     }
 }
 
@@ -118,9 +117,14 @@ pub fn outlook<W: Watcher>(watcher: &W, good: &[bool; MARK_SETS]) -> Outlook
     ensures breakable { Foresees (W.watching watcher.now) good.now false (at result.breakable) }
 {
     let sizes = watcher.sizes();
+    let guide = Guide {
+        watcher,
+        good,
+        letters: sizes.letters,
+    };
     let mut search = Search::begin();
-    for state in 0..sizes.states {
-        search.visit(watcher, good, sizes.letters, state);
+    for number in 0..sizes.states {
+        guide.visit(&mut search, State { number });
     }
     Outlook {
         keepable: search.keepable,

@@ -3,57 +3,71 @@ use Rattle.std.specs.Prelude.{◌≡◌, ℕ, ◌+◌, ◌-◌, ◌*◌, ◌<◌
 use Rattle.watch.specs.Letters.{letter_count}
 use Rattle.watch.specs.Watchers.{Watching}
 use Rattle.outlook.specs.Outlooks.{at}
-use Rattle.outlook.specs.inner.Tables.{item, Shared}
+use Rattle.outlook.specs.inner.Tables.{item}
 use Rattle.outlook.specs.inner.Ways.{Reaches, Leads, value, Stays, Dies}
-use Rattle.outlook.specs.declared.search.Search.{Search}
+
+-- What a search remembers, as lists with a number for each state, or for each place and each group that there was so far.
+-- Those from `depth` and from `groups` on say nothing any more. `resume` and `here` are one more than a place, or 0 for none.
+pub record Memory : Type 0 where
+  pub keepable : List Bool
+  pub breakable : List Bool
+  pub seen : List Bool
+  pub cursor : List ℕ
+  pub path : List ℕ
+  pub place : List ℕ
+  pub resume : List ℕ
+  pub bounds : List ℕ
+  pub depth : ℕ
+  pub groups : ℕ
+  pub here : ℕ
 
 -- How many states the table has.
 abbrev pub trues : List Bool → ℕ
 trues table = count_by (λ b. b) table
 
 -- The state at a place of the path.
-abbrev pub on : Search → ℕ → ℕ
+abbrev pub on : Memory → ℕ → ℕ
 on x j = item x.path j
 
 -- The first place of a group.
-abbrev pub bound : Search → ℕ → ℕ
+abbrev pub bound : Memory → ℕ → ℕ
 bound x i = item x.bounds i
 
 -- What is known of a state for the value v.
-abbrev pub known : Search → Bool → ℕ → Bool
+abbrev pub known : Memory → Bool → ℕ → Bool
 known x v s = at (cond v x.keepable x.breakable) s
 
 -- The state stands at place k of the path.
-abbrev pub Held : Search → ℕ → ℕ → Type 0
+abbrev pub Held : Memory → ℕ → ℕ → Type 0
 Held x k s = (k < x.depth) × (on x k ≡ s)
 
 -- The state was on the path, and left it.
-abbrev pub Gone : Search → ℕ → Type 0
+abbrev pub Gone : Memory → ℕ → Type 0
 Gone x s = (at x.seen s ≡ true) × ((k : ℕ) → Held x k s → ⊥)
 
 -- The state is known to come to rest at its own marks.
-abbrev pub Own : Watching → List Bool → Search → ℕ → Type 0
+abbrev pub Own : Watching → List Bool → Memory → ℕ → Type 0
 Own w good x s = known x (value w good s) s ≡ true
 
 -- Place k is in the group of place j, or in a later one.
-abbrev pub Inward : Search → ℕ → ℕ → Type 0
+abbrev pub Inward : Memory → ℕ → ℕ → Type 0
 Inward x j k = (i : ℕ) → i < x.groups → bound x i ≤ j → bound x i ≤ k
 
 -- Where place k is in a later group, it is the first of the next group, and was taken from place j.
-abbrev pub Opens : Search → ℕ → ℕ → Type 0
+abbrev pub Opens : Memory → ℕ → ℕ → Type 0
 Opens x j k = (i : ℕ) → i < x.groups → bound x i ≤ k → j < bound x i → (bound x i ≡ k) × (item x.resume k ≡ j + 1)
 
 -- What a letter that was tried at place j, where the state s stands, leads to: a state that is gone, whose knowledge s has,
 -- or one at place k.
-abbrev pub Went : Watching → List Bool → Search → ℕ → ℕ → ℕ → Type 0
+abbrev pub Went : Watching → List Bool → Memory → ℕ → ℕ → ℕ → Type 0
 Went w good x j s t =
     (Gone x t × ((v : Bool) → known x v t ≡ true → known x v s ≡ true)) ⊎ ((k : ℕ) × Held x k t × Inward x j k × Opens x j k × (k ≡ j → Own w good x s))
 
 -- No letter of the state is left.
-abbrev pub Spent : Watching → Search → ℕ → Type 0
+abbrev pub Spent : Watching → Memory → ℕ → Type 0
 Spent w x s = letter_count w.events ≤ item x.cursor s
 
-pub record Sized (x : Search) : Type 0 where
+pub record Sized (x : Memory) : Type 0 where
   pub keepable : length x.keepable ≡ 16384
   pub breakable : length x.breakable ≡ 16384
   pub seen : length x.seen ≡ 16384
@@ -63,7 +77,7 @@ pub record Sized (x : Search) : Type 0 where
   pub resume : length x.resume ≡ 16384
   pub bounds : length x.bounds ≡ 16384
 
-pub record Searching (w : Watching) (good : List Bool) (x : Search) : Type 0 where
+pub record Searching (w : Watching) (good : List Bool) (x : Memory) : Type 0 where
   pub sized : Sized x
   pub room : x.depth ≤ trues x.seen
   pub top : x.here ≤ x.depth
@@ -92,11 +106,11 @@ pub record Searching (w : Watching) (good : List Bool) (x : Search) : Type 0 whe
   pub fresh : (s : ℕ) → at x.seen s ≡ false → item x.cursor s ≡ 0
 
 -- The letters that are left, and the places to go back over.
-abbrev pub left : Watching → Search → ℕ
+abbrev pub left : Watching → Memory → ℕ
 left w x = sum_by (λ c. letter_count w.events - c) x.cursor * 16385 + x.here
 
 -- The state goes on the path, in a group of its own.
-abbrev pub pushed : Search → ℕ → Search
+abbrev pub pushed : Memory → ℕ → Memory
 pushed x s = record {
   keepable = x.keepable;
   breakable = x.breakable;
@@ -112,7 +126,7 @@ pushed x s = record {
 }
 
 -- The next letter of the state is n.
-abbrev pub moved : Search → ℕ → ℕ → Search
+abbrev pub moved : Memory → ℕ → ℕ → Memory
 moved x s n = record {
   keepable = x.keepable;
   breakable = x.breakable;
@@ -127,11 +141,11 @@ moved x s n = record {
   here = x.here;
 }
 
-abbrev pub advanced : Search → ℕ → Search
+abbrev pub advanced : Memory → ℕ → Memory
 advanced x s = moved x s (item x.cursor s + 1)
 
 -- More is known.
-abbrev pub learned : Search → List Bool → List Bool → Search
+abbrev pub learned : Memory → List Bool → List Bool → Memory
 learned x keepable breakable = record {
   keepable = keepable;
   breakable = breakable;
@@ -147,15 +161,15 @@ learned x keepable breakable = record {
 }
 
 -- The state can come to rest at its own marks, which are good or not.
-abbrev pub noted : Search → ℕ → Bool → Search
+abbrev pub noted : Memory → ℕ → Bool → Memory
 noted x s good = learned x (cond good (slice_set x.keepable s true) x.keepable) (cond good x.breakable (slice_set x.breakable s true))
 
 -- The state can come to what the state u can come to.
-abbrev pub absorbed : Search → ℕ → ℕ → Search
+abbrev pub absorbed : Memory → ℕ → ℕ → Memory
 absorbed x s u = learned x (slice_set x.keepable s (at x.keepable s || at x.keepable u)) (slice_set x.breakable s (at x.breakable s || at x.breakable u))
 
 -- The path has d states in g groups, and the place before h is looked at.
-abbrev pub stood : Search → ℕ → ℕ → ℕ → Search
+abbrev pub stood : Memory → ℕ → ℕ → ℕ → Memory
 stood x d g h = record {
   keepable = x.keepable;
   breakable = x.breakable;
@@ -170,28 +184,17 @@ stood x d g h = record {
   here = h;
 }
 
--- The groups that begin after the place are joined, and nothing else changes.
-pub record Joined (x : Search) (place : ℕ) (y : Search) : Type 0 where
-  pub some : 0 < y.groups
-  pub fewer : y.groups ≤ x.groups
-  pub after : (i : ℕ) → y.groups ≤ i → i < x.groups → place < bound x i
-  pub same : y ≡ stood x x.depth y.groups x.here
-
--- The last group left the path, and its knowledge is shared.
-pub record Left (x : Search) (first : ℕ) (y : Search) : Type 0 where
-  pub long_keepable : length y.keepable ≡ length x.keepable
-  pub long_breakable : length y.breakable ≡ length x.breakable
-  pub keepable : Shared x.path first x.depth (item x.resume first) x.keepable y.keepable
-  pub breakable : Shared x.path first x.depth (item x.resume first) x.breakable y.breakable
-  pub same : y ≡ stood (learned x y.keepable y.breakable) first (x.groups - 1) (item x.resume first)
+-- What the group from the place p on knows is known of all its states, and of the one that it was taken from, and of no other.
+pub record Handed (x : Memory) (p : ℕ) (keepable breakable : List Bool) : Type 0 where
+  pub long_keepable : length keepable ≡ length x.keepable
+  pub long_breakable : length breakable ≡ length x.breakable
+  pub kept : (v : Bool) (z : ℕ) → known x v z ≡ true → known (learned x keepable breakable) v z ≡ true
+  pub only : (v : Bool) (z : ℕ) → known (learned x keepable breakable) v z ≡ true → (known x v z ≡ true) ⊎ (((k : ℕ) × (p ≤ k) × (k < x.depth) × (known x v (on x k) ≡ true)) × ((k : ℕ) × Held x k z))
+  pub even : (v : Bool) (j k : ℕ) → p ≤ j → j < x.depth → p ≤ k → k < x.depth → known (learned x keepable breakable) v (on x j) ≡ true → known (learned x keepable breakable) v (on x k) ≡ true
+  pub told : (v : Bool) (q : ℕ) → item x.resume p ≡ q + 1 → known (learned x keepable breakable) v (on x p) ≡ true → known (learned x keepable breakable) v (on x q) ≡ true
 
 -- One step further.
-pub record Stepped (w : Watching) (good : List Bool) (x y : Search) : Type 0 where
+pub record Onward (w : Watching) (good : List Bool) (x y : Memory) : Type 0 where
   pub goes : Searching w good y
   pub still_seen : (z : ℕ) → at x.seen z ≡ true → at y.seen z ≡ true
   pub less : left w y < left w x
-
--- Some steps further.
-pub record Ran (w : Watching) (good : List Bool) (x y : Search) : Type 0 where
-  pub goes : Searching w good y
-  pub still_seen : (z : ℕ) → at x.seen z ≡ true → at y.seen z ≡ true

@@ -1,8 +1,9 @@
-use Rattle.std.proofs.Common.{◌≡◌, ℕ, ◌<◌, true}
-use Rattle.outlook.specs.Outlooks.{at}
-use Rattle.outlook.specs.inner.Searching.{Searching}
+use Rattle.std.proofs.Common.{◌≡◌, ◌≢◌, ℕ, ◌<◌, None}
+use Rattle.outlook.specs.inner.Memories.{standing}
+use Rattle.outlook.specs.inner.Showing.{Goes}
+use Rattle.outlook.specs.declared.search.Standing.TheVariants.{New}
 use Rattle.outlook.proofs.looking.outlook.Given as goal
 
-abbrev pub invariant-loop-state : goal.invariant-loop-state
-invariant-loop-state g l =
-    Searching (g.W.Watcher.watching l.watcher) l.good l.search × (l.search.here ≡ 0) × ((s : ℕ) → s < l.state → at l.search.seen s ≡ true)
+abbrev pub invariant-loop-number : goal.invariant-loop-number
+invariant-loop-number g l =
+    Goes (g.W.Watcher.watching l.watcher) l.good l.search × (l.search.here ≡ None) × ((s : ℕ) → s < l.number → standing l.search s ≢ New)

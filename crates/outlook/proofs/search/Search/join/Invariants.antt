@@ -1,8 +1,9 @@
-use Rattle.outlook.specs.inner.Searching.{Joined}
+use Rattle.std.proofs.Common.{length}
+use Rattle.outlook.specs.inner.Memories.{Joined}
 use Rattle.outlook.proofs.search.Search.join.Given as goal
 
-abbrev pub invariant-loop-self : goal.invariant-loop-self
-invariant-loop-self l = Joined l.initial.self l.place l.self
+abbrev pub invariant-loop-place : goal.invariant-loop-place
+invariant-loop-place l = Joined l.initial.self l.place l.self
 
-abbrev pub decreases-loop-self : goal.decreases-loop-self
-decreases-loop-self l = l.self.groups
+abbrev pub decreases-loop-place : goal.decreases-loop-place
+decreases-loop-place l = length l.self.bounds.items
