@@ -35,9 +35,10 @@ pub fn follow<W: Watcher>(
         return Err(place);
     }
     let mut state = watcher.start();
+    let count = letters.len().min(stands.len());
     // By place: of what is written through a `zip` with `iter_mut` a proof knows nothing afterwards.
-    for place in 0..letters.len().min(stands.len()) {
-        state = watcher.next(state, letters[place]);
+    for (place, letter) in letters[..count].iter().enumerate() {
+        state = watcher.next(state, *letter);
         stands[place] = Passed {
             state,
             shown: watcher.shown(state),
