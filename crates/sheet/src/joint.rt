@@ -1,6 +1,7 @@
 // The rows of a sheet step by step, as one. A state has a digit for each row, in which the first row is the lowest.
 ghost use Rattle.std.specs.Prelude.{◌≡◌, ◌≤◌, length};
 ghost use Rattle.watch.specs.Watchers.{most_marks, most_states};
+ghost use Rattle.watch.specs.Steps.{step_digits};
 ghost use Rattle.limits.specs.Questions.{product};
 ghost use Rattle.sheet.specs.Joints.{joint, marks_at, matched_all};
 
@@ -30,7 +31,7 @@ pub(crate) fn match_all(events: &[Event], rows: &[Row]) -> [Matched; PLACES]
 // The next state of all rows together.
 pub(crate) fn next_of(rows: &[Row], matched: &[Matched], step: &Step, state: u16) -> u16
     requires { (product rows.now ≤ most_states) × (length rows.now ≤ length matched.now) }
-    ensures { result ≡ joint rows.now matched.now step.now.digits state }
+    ensures { result ≡ joint rows.now matched.now (step_digits step.now) state }
 {
     let mut rest = u32::from(state);
     let mut weight = 1;

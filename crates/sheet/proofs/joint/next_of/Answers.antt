@@ -1,3 +1,4 @@
+use Rattle.watch.specs.Steps.{step_digits}
 use Rattle.std.proofs.Common.{◌+◌, ◌*◌, ◌/◌, ◌<◌, ◌≤◌, length, arith}
 use Rattle.limits.specs.Questions.{product}
 use Rattle.sheet.proofs.Digits.{Summing, summed, weight_fits, summed_all}
@@ -9,18 +10,18 @@ module _ (c : goal.After-next) where
   room = omega arith
 
   more :
-      Summing c.args.rows.now c.args.matched.now c.args.step.now.digits c.args.state (c.loop-place.place + 1)
+      Summing c.args.rows.now c.args.matched.now (step_digits c.args.step.now) c.args.state (c.loop-place.place + 1)
       (c.loop-place.rest / c.states-count.result) (c.loop-place.weight * c.states-count.result)
       (c.loop-place.sum + c.loop-place.weight * c.next.result)
   more =
-      summed c.args.rows.now c.args.matched.now c.args.step.now.digits c.args.state c.loop-place.place
+      summed c.args.rows.now c.args.matched.now (step_digits c.args.step.now) c.args.state c.loop-place.place
       c.loop-place.rest c.loop-place.weight c.loop-place.sum c.loop-place.invariant c.index-rows-place.result _
       c.loop-place-test.true room c.index-rows-place.is c.states-count.result c.next.result c.states-count.ensures
       c.next.ensures.next
 
   grown : c.loop-place.weight * c.states-count.result ≤ product c.args.rows.now
   grown =
-      weight_fits c.args.rows.now c.args.matched.now c.args.step.now.digits c.args.state c.loop-place.place
+      weight_fits c.args.rows.now c.args.matched.now (step_digits c.args.step.now) c.args.state c.loop-place.place
       c.loop-place.rest c.loop-place.weight c.loop-place.sum c.loop-place.invariant c.index-rows-place.result _
       c.loop-place-test.true room c.index-rows-place.is c.states-count.result c.next.result c.states-count.ensures
       c.next.ensures.next
@@ -43,12 +44,12 @@ loop-place-preserved c = more c
 pub overflow_cast-result : goal.overflow_cast-result
 overflow_cast-result c =
     let all =
-    summed_all c.args.rows.now c.args.matched.now c.args.step.now.digits c.args.state c.loop-place.place c.loop-place.rest
+    summed_all c.args.rows.now c.args.matched.now (step_digits c.args.step.now) c.args.state c.loop-place.place c.loop-place.rest
     c.loop-place.weight c.loop-place.sum c.loop-place.invariant c.loop-place-test.false
     in
     omega (arith, all.1, c.requires.0)
 
 pub returns : goal.returns
 returns c =
-    (summed_all c.args.rows.now c.args.matched.now c.args.step.now.digits c.args.state c.loop-place.place c.loop-place.rest
+    (summed_all c.args.rows.now c.args.matched.now (step_digits c.args.step.now) c.args.state c.loop-place.place c.loop-place.rest
     c.loop-place.weight c.loop-place.sum c.loop-place.invariant c.loop-place-test.false).0
