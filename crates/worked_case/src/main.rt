@@ -50,7 +50,6 @@ fn run(rt: &HostRuntime) -> anyhow::Result<()> {
         if monitor.close_with(*step).is_err() {
             return Err(anyhow!("a note or a closing was refused"));
         }
-        let shown = shown.text(heap)?;
         println!(rt; "step {hour}: {}, marks {shown}", verdict(&monitor).0)?;
     }
     println!(rt; "closed {}", verdict(&monitor).1)?;
