@@ -1,5 +1,5 @@
 pub mod Operators
 pub mod Deciding
 pub mod Steps
-mod Places
+pub mod Places
 pub mod Mapped

@@ -1,16 +1,21 @@
 -- Numbers with a digit for each row, taken apart and put together row by row. Assumes nothing.
-use Rattle.std.proofs.Common.{◌≡◌, ℕ, zero, suc, ◌+◌, ◌*◌, ◌/◌, ◌%◌, ◌^◌, ◌<◌, ◌≤◌, cond, eqb, List, [], ◌∷◌, length, get_or, take, drop, set, sym, ap, ◌∙◌, mod-lt, mul_assoc, mul_comm, mul-le-mul_left, pow-suc, mul-zero, mul-one, mul-add, add-one, arith, lit<}
+use Rattle.std.proofs.Common.{◌≡◌, ℕ, zero, suc, ◌+◌, ◌*◌, ◌/◌, ◌%◌, ◌^◌, ◌<◌, ◌≤◌, cond, eqb, List, [], ◌∷◌, length, get_or, drop, ◌⊎◌, ⊎_elim, refl, sym, ap, subst, ◌∙◌, le-mul_of_pos_right, mod-lt, mul_assoc, mul_comm, mul-le-mul_left, pow-suc, mul-zero, mul-one, mul-add, arith, lit<}
 use native.Mathlib.Nat.{pow-le-pow_right}
 use Rattle.std.proofs.lemmas.List.{at_drop_more, at_drop_all}
+use Rattle.std.specs.Prelude.{slice_get}
+use Rattle.std.specs.Option.{option_map_or}
+use Rattle.std.specs.Array.{IsFromFnResult}
+use Rattle.std.specs.Fn.{Mut, Called}
 use Rattle.osl.specs.declared.event.Event.{Event}
 use Rattle.osl.specs.declared.row.Row.{Row}
 use Rattle.osl.specs.declared.matched.Matched.{Matched}
 use Rattle.osl.specs.Resolving.{matched_by}
+use Rattle.osl.proofs.Places.{made}
 use Rattle.rows.specs.Stepping.{moved, broken, states}
 use Rattle.rows.proofs.Bounds.{moved_below}
 use Rattle.limits.specs.Questions.{product}
-use Rattle.limits.proofs.Products.{product_more, product_least, product_all}
-use Rattle.sheet.specs.Joints.{joint, marks_at, matched_all}
+use Rattle.limits.proofs.Products.{product_pos}
+use Rattle.sheet.specs.Joints.{joint, marks_at, matched_all, nothing}
 
 -- one digit r below n is put on the sum, with the weight w; what is left above it is q
 carry : (sum w n r q all : ℕ) → all ≡ q * n + r → sum + w * r + w * n * q ≡ sum + w * all
@@ -29,58 +34,57 @@ carry_below sum w n r low digit =
 
 -- ## The next state
 
--- After i rows: the sum, its weight and what is left of the state.
-pub record Summing (rows : List Row) (ms : List Matched) (ds : List ℕ) (s i rest weight sum : ℕ) : Type 0 where
-  pub value : sum + weight * joint (drop i rows) (drop i ms) ds rest ≡ joint rows ms ds s
-  pub whole : weight * product (drop i rows) ≡ product rows
+-- Of some rows and what they speak of: the sum so far, its weight and what is left of the state, where these rows and what they
+-- speak of are left. In the end the sum is `all`, below `size`.
+pub record Summing (all size : ℕ) (rs : List Row) (ms : List Matched) (ds : List ℕ) (rest weight sum : ℕ) : Type 0 where
+  pub value : sum + weight * joint rs ms ds rest ≡ all
+  pub whole : weight * product rs ≡ size
   pub below : sum < weight
+  pub room : length rs ≤ length ms
 
 module _
-    (rows : List Row) (ms : List Matched) (ds : List ℕ) (s i rest weight sum : ℕ) (so : Summing rows ms ds s i rest weight sum)
-    (x : Row) (d : Matched) (here : i < length rows) (room : i < length ms) (is : x ≡ get_or rows i x)
-    (n r : ℕ) (size : n ≡ states x) (new : r ≡ moved x (get_or ms i d) ds (rest % n))
+    (all size : ℕ) (left rs : List Row) (of ms : List Matched) (ds : List ℕ) (rest weight sum : ℕ)
+    (so : Summing all size left of ds rest weight sum) (x : Row) (m : Matched) (row : left ≡ x ∷ rs) (own : of ≡ m ∷ ms)
+    (n r : ℕ) (count : n ≡ states x) (new : r ≡ moved x m ds (rest % n))
   where
-    here_joint : joint (drop i rows) (drop i ms) ds rest ≡ joint (drop (i + 1) rows) (drop (i + 1) ms) ds (rest / n) * n + r
-    here_joint =
-        at_drop_more (λ (rs : List Row). joint rs (drop i ms) ds rest) rows i x here ∙
-        (at_drop_more (λ (ns : List Matched). joint (get_or rows i x ∷ drop (i + 1) rows) ns ds rest) ms i d room ∙
-        (ap (λ (y : Row). joint (y ∷ drop (i + 1) rows) (get_or ms i d ∷ drop (i + 1) ms) ds rest) (sym is) ∙
-        (ap (λ (k : ℕ). joint (drop (i + 1) rows) (drop (i + 1) ms) ds (rest / k) * k + moved x (get_or ms i d) ds (rest % k)) (sym size) ∙
-        ap (λ (k : ℕ). joint (drop (i + 1) rows) (drop (i + 1) ms) ds (rest / n) * n + k) (sym new))))
+    here : Summing all size (x ∷ rs) (m ∷ ms) ds rest weight sum
+    here =
+        subst (λ (l : List Row). Summing all size l (m ∷ ms) ds rest weight sum) row
+        (subst (λ (l : List Matched). Summing all size left l ds rest weight sum) own so)
 
-    some_states : 0 < n
-    some_states = omega arith
+    here_joint : joint (x ∷ rs) (m ∷ ms) ds rest ≡ joint rs ms ds (rest / n) * n + r
+    here_joint = ap (λ (k : ℕ). joint rs ms ds (rest / k) * k + moved x m ds (rest % k)) (sym count) ∙ ap (λ (k : ℕ). joint rs ms ds (rest / n) * n + k) (sym new)
 
     digit_below : r < n
     digit_below =
-        let m : Matched = get_or ms i d in
         let b : moved x m ds (rest % states x) < states x = moved_below x m ds (rest % states x) (mod-lt rest (let z : 0 < states x = omega arith in z)) in
-        let e : moved x m ds (rest % n) ≡ moved x m ds (rest % states x) = ap (λ (k : ℕ). moved x m ds (rest % k)) size in
+        let e : moved x m ds (rest % n) ≡ moved x m ds (rest % states x) = ap (λ (k : ℕ). moved x m ds (rest % k)) count in
         omega arith
 
-    whole_more : weight * n * product (drop (i + 1) rows) ≡ product rows
-    whole_more = product_more rows i weight so.whole x n here is size
+    whole_more : weight * n * product rs ≡ size
+    whole_more = mul_assoc weight n (product rs) ∙ (ap (λ (k : ℕ). weight * (k * product rs)) count ∙ here.whole)
 
-    pub summed : Summing rows ms ds s (i + 1) (rest / n) (weight * n) (sum + weight * r)
+    pub summed : Summing all size rs ms ds (rest / n) (weight * n) (sum + weight * r)
     summed =
         record {
-          value = carry sum weight n r (joint (drop (i + 1) rows) (drop (i + 1) ms) ds (rest / n)) (joint (drop i rows) (drop i ms) ds rest) here_joint ∙ so.value;
+          value = carry sum weight n r (joint rs ms ds (rest / n)) (joint (x ∷ rs) (m ∷ ms) ds rest) here_joint ∙ here.value;
           whole = whole_more;
-          below = carry_below sum weight n r so.below digit_below;
+          below = carry_below sum weight n r here.below digit_below;
+          room = omega (arith, here.room);
         }
 
     -- how large the parts are
-    pub weight_fits : weight * n ≤ product rows
-    weight_fits = product_least rows (i + 1) (weight * n) whole_more
+    pub weight_fits : weight * n ≤ size
+    weight_fits = omega (arith, whole_more, le-mul_of_pos_right {m = product rs} (weight * n) (product_pos rs))
 
 pub summed_all :
-    (rows : List Row) (ms : List Matched) (ds : List ℕ) (s i rest weight sum : ℕ) → Summing rows ms ds s i rest weight sum → length rows ≤ i →
-    (sum ≡ joint rows ms ds s) × (sum < product rows)
-summed_all rows ms ds s i rest weight sum so past =
-    let e : joint (drop i rows) (drop i ms) ds rest ≡ 0 = at_drop_all (λ (rs : List Row). joint rs (drop i ms) ds rest) rows i past in
-    let z : weight * joint (drop i rows) (drop i ms) ds rest ≡ 0 = ap (λ (k : ℕ). weight * k) e ∙ mul-zero weight in
-    let all = product_all rows i weight so.whole past in
-    (omega (arith, z, so.value), omega (arith, all, so.below))
+    (all size : ℕ) (rs : List Row) (ms : List Matched) (ds : List ℕ) (rest weight sum : ℕ) → Summing all size rs ms ds rest weight sum →
+    (rs ≡ []) ⊎ (ms ≡ []) → (sum ≡ all) × (sum < size)
+summed_all all size [] ms ds rest weight sum so none =
+    (omega (arith, so.value, mul-zero weight), omega (arith, so.below, so.whole, mul-one weight))
+summed_all all size (r ∷ rs) [] ds rest weight sum so none = absurd (let room = so.room in omega arith)
+summed_all all size (r ∷ rs) (m ∷ ms) ds rest weight sum so none =
+    absurd (⊎_elim (λ e. let l = ap length e in omega arith) (λ e. let l = ap length e in omega arith) none)
 
 -- ## The marks
 
@@ -122,17 +126,25 @@ bit_small i n bit size few = omega (arith, size, pow-le-pow_right {n = 2} (lit< 
 
 -- ## What the rows speak of
 
-matched_set :
-    (events : List Event) (n : ℕ) (rows : List Row) (i : ℕ) (x : Row) → i < n → i < length rows → x ≡ get_or rows i x →
-    set (matched_all events n (take i rows)) i (matched_by events x) ≡ matched_all events n (take (suc i) rows)
-matched_set events zero rows i x room here is = absurd (omega arith)
-matched_set events (suc n) [] i x room here is = absurd (omega arith)
-matched_set events (suc n) (r ∷ rs) zero x room here is = ap (λ (y : Row). matched_by events y ∷ matched_all events n []) is
-matched_set events (suc n) (r ∷ rs) (suc i) x room here is =
-    ap (λ (ms : List Matched). matched_by events r ∷ ms) (matched_set events n rs i x (omega arith) (omega arith) is)
+length-matched_all : (events : List Event) (n : ℕ) (rows : List Row) → length (matched_all events n rows) ≡ n
+length-matched_all events zero rows = refl
+length-matched_all events (suc n) [] = ap suc (length-matched_all events n [])
+length-matched_all events (suc n) (r ∷ rs) = ap suc (length-matched_all events n rs)
 
-pub matched_more :
-    (events : List Event) (n : ℕ) (rows : List Row) (i : ℕ) (x : Row) → i < n → i < length rows → x ≡ get_or rows i x →
-    set (matched_all events n (take i rows)) i (matched_by events x) ≡ matched_all events n (take (i + 1) rows)
-matched_more events n rows i x room here is =
-    matched_set events n rows i x room here is ∙ ap (λ (k : ℕ). matched_all events n (take k rows)) (sym (add-one i))
+abbrev said : List Event → List Row → ℕ → Matched
+said events rows i = option_map_or (matched_by events) (slice_get rows i) nothing
+
+get_or-matched_all : (events : List Event) (n : ℕ) (rows : List Row) (i : ℕ) → i < n → get_or (matched_all events n rows) i nothing ≡ said events rows i
+get_or-matched_all events zero rows i below = absurd (omega arith)
+get_or-matched_all events (suc n) [] zero below = refl
+get_or-matched_all events (suc n) [] (suc i) below = get_or-matched_all events n [] i (omega arith)
+get_or-matched_all events (suc n) (r ∷ rs) zero below = refl
+get_or-matched_all events (suc n) (r ∷ rs) (suc i) below = get_or-matched_all events n rs i (omega arith)
+
+pub made_matched :
+    {F : Type 0} (g : Mut F (ℕ × Unit {0}) Matched) (f : F) (events : List Event) (rows : List Row) →
+    ((i : ℕ) (m : Matched) (q : F) → Called g f (i, tt) m q → (q ≡ f) × (m ≡ said events rows i)) →
+    (ms : List Matched) (n : ℕ) → IsFromFnResult g f ms n → ms ≡ matched_all events n rows
+made_matched g f events rows calls ms n all =
+    made g f (said events rows) nothing calls ms n (matched_all events n rows) (length-matched_all events n rows)
+    (λ i below. get_or-matched_all events n rows i below) all

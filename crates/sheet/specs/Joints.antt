@@ -22,10 +22,13 @@ abbrev pub marks_at : List Row → ℕ → ℕ
 marks_at [] s = 0
 marks_at (r ∷ rs) s = marks_at rs (s / states r) * 2 + cond (s % states r == broken r) 1 0
 
+abbrev pub nothing : Matched
+nothing = record { first = no_events; second = no_events }
+
 -- What n rows speak of; where there is no row, nothing.
 abbrev pub matched_all : List Event → ℕ → List Row → List Matched
 matched_all events zero rows = []
-matched_all events (suc n) [] = record { first = no_events; second = no_events } ∷ matched_all events n []
+matched_all events (suc n) [] = nothing ∷ matched_all events n []
 matched_all events (suc n) (r ∷ rs) = matched_by events r ∷ matched_all events n rs
 
 -- The watcher of some rows over some declared events, with a mark for each row.

@@ -1,36 +1,15 @@
 // Making a sheet of its parts.
-ghost use Rattle.std.specs.Prelude.{◌≡◌, ◌<◌, ◌≤◌, length, IfOk};
-ghost use Rattle.watch.specs.Letters.{most_events};
-ghost use Rattle.watch.specs.Sizes.{sizes_of};
-ghost use Rattle.watch.specs.Watchers.{most_marks, most_states};
-ghost use Rattle.limits.specs.Questions.{product};
-ghost use Rattle.sheet.specs.Joints.{watched};
+ghost use Rattle.std.specs.Prelude.{◌≡◌, IfOk};
 ghost use Rattle.sheet.specs.Making.{Makes, Remakes, Idle, Blank};
 ghost use Rattle.sheet.specs.Sheets.{events_of, rows_of};
 
-use crate::joint::match_all;
 use crate::sheet::Sheet;
+use crate::terms::Terms;
 use expression::Expression;
-use limits::{Refusal, judge, state_count};
+use limits::Refusal;
 use osl::{Class, Event, Row, Test};
 use std::alloc::{AllocError, Global};
 use text::Name;
-use watch::{Sizes, letter_count};
-
-fn sizes_of(events: &[Event], rows: &[Row]) -> Sizes
-    requires { (length events.now ≤ most_events) × ((length rows.now ≤ most_marks) × (product rows.now ≤ most_states)) }
-    ensures { result ≡ sizes_of (watched events.now rows.now) }
-{
-    let (Some(states), Some(letters)) = (state_count(rows), letter_count(events.len() as u8)) else {
-        unreachable()
-    };
-    Sizes {
-        states,
-        events: events.len() as u8,
-        letters,
-        marks: rows.len() as u8,
-    }
-}
 
 fn idle(heap: Global) -> Result<Event, AllocError>
     ensures { IfOk result Idle }
@@ -54,21 +33,19 @@ impl Sheet {
         events.push(idle(heap)?)?;
         let mut rows = Vec::new(heap);
         rows.push(Row::Always(Test::True))?;
-        match Sheet::new(events, rows, Expression::blank()) {
-            Ok(sheet) => Ok(sheet),
-            Err(_) => unreachable(),
-        }
+        let Ok(sheet) = Sheet::new(events, rows, Expression::blank()) else {
+            unreachable()
+        };
+        Ok(sheet)
     }
 
     // The sheet of these events and rows that keeps this expression, or the first question that says no.
     pub fn new(events: Vec<Event>, rows: Vec<Row>, keep: Expression) -> Result<Sheet, Refusal>
         ensures { Makes events rows keep result }
     {
-        if let Some(refusal) = judge(&events, &rows, &keep) {
-            return Err(refusal);
-        }
-        let matched = match_all(&events, &rows);
-        let sizes = sizes_of(&events, &rows);
+        let terms = Terms::judged(&events, &rows, &keep)?;
+        let matched = terms.matched();
+        let sizes = terms.sizes();
         Ok(Sheet {
             events,
             rows,
@@ -87,25 +64,20 @@ impl Sheet {
     ) -> Result<(), Refusal>
         ensures { Remakes events rows keep self.old result self.new }
     {
-        match Sheet::new(events, rows, keep) {
-            Ok(sheet) => {
-                *self = sheet;
-                Ok(())
-            }
-            Err(refusal) => Err(refusal),
-        }
+        *self = Sheet::new(events, rows, keep)?;
+        Ok(())
     }
 
     pub fn events(&self) -> &[Event]
         ensures { result.now ≡ events_of self.now }
     {
-        self.events.as_slice()
+        &self.events
     }
 
     pub fn rows(&self) -> &[Row]
         ensures { result.now ≡ rows_of self.now }
     {
-        self.rows.as_slice()
+        &self.rows
     }
 
     pub fn keep(&self) -> Expression

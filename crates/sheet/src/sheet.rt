@@ -11,7 +11,7 @@ ghost use Rattle.sheet.specs.Joints.{matched_all, watched};
 ghost use Rattle.sheet.specs.Limits.{within};
 ghost use Rattle.sheet.specs.Watched.{sheet_lawful};
 
-use crate::joint::{PLACES, marks_of, next_of};
+use crate::terms::{PLACES, Terms};
 use expression::Expression;
 use osl::{Event, Matched, Row};
 use watch::{MarkSet, Sizes, Step, Watcher};
@@ -28,6 +28,17 @@ pub struct Sheet {
     ghost lawful: { all_yes events.items rows.items (formula keep) ≡ true },
     ghost found: { matched ≡ matched_all events.items most_marks rows.items },
     ghost sized: { sizes ≡ sizes_of (watched events.items rows.items) },
+}
+
+impl Sheet {
+    fn terms(&self) -> Terms<'_>
+        ensures { (result.events.now ≡ self.now.events.items) × (result.rows.now ≡ self.now.rows.items) }
+    {
+        Terms {
+            events: &self.events,
+            rows: &self.rows,
+        }
+    }
 }
 
 impl Watcher for Sheet {
@@ -47,15 +58,13 @@ impl Watcher for Sheet {
         if state >= self.sizes.states || letter >= self.sizes.letters {
             return START;
         }
-        next_of(&self.rows, &self.matched, &Step::of(letter), state)
+        self.terms().next(&self.matched, &Step::of(letter), state)
     }
 
     fn shown(&self, state: u16) -> MarkSet {
         if state >= self.sizes.states {
             return MarkSet::EMPTY;
         }
-        MarkSet {
-            bits: marks_of(&self.rows, state),
-        }
+        self.terms().marks(state)
     }
 }
