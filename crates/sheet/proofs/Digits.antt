@@ -15,6 +15,7 @@ use Rattle.rows.specs.Stepping.{moved, broken, states}
 use Rattle.rows.proofs.Bounds.{moved_below}
 use Rattle.limits.specs.Questions.{product}
 use Rattle.limits.proofs.Products.{product_pos}
+use Rattle.sheet.specs.Parts.{length_matched}
 use Rattle.sheet.specs.Joints.{joint, marks_at, matched_all, nothing}
 
 -- one digit r below n is put on the sum, with the weight w; what is left above it is q
@@ -113,23 +114,7 @@ marked rows s i rest bit sum so x here is n r size new small =
         (ap (λ (k : ℕ). marks_at (drop (i + 1) rows) (rest / k) * 2 + cond (eqb (rest % k) (broken x)) 1 0) (sym size) ∙
         ap (λ (k : ℕ). marks_at (drop (i + 1) rows) (rest / n) * 2 + k) (sym new)))
 
-pub marked_all :
-    (rows : List Row) (s i rest bit sum : ℕ) → Marking rows s i rest bit sum → length rows ≤ i → sum ≡ marks_at rows s
-marked_all rows s i rest bit sum so past =
-    let e : marks_at (drop i rows) rest ≡ 0 = at_drop_all (λ (rs : List Row). marks_at rs rest) rows i past in
-    let z : bit * marks_at (drop i rows) rest ≡ 0 = ap (λ (k : ℕ). bit * k) e ∙ mul-zero bit in
-    omega (arith, z, so.value)
-
--- a bit of one of the first n places
-pub bit_small : (i n bit : ℕ) → bit ≡ 2 ^ i → i ≤ n → bit ≤ 2 ^ n
-bit_small i n bit size few = omega (arith, size, pow-le-pow_right {n = 2} (lit< tt) {i = i} {j = n} few)
-
 -- ## What the rows speak of
-
-length-matched_all : (events : List Event) (n : ℕ) (rows : List Row) → length (matched_all events n rows) ≡ n
-length-matched_all events zero rows = refl
-length-matched_all events (suc n) [] = ap suc (length-matched_all events n [])
-length-matched_all events (suc n) (r ∷ rs) = ap suc (length-matched_all events n rs)
 
 abbrev said : List Event → List Row → ℕ → Matched
 said events rows i = option_map_or (matched_by events) (slice_get rows i) nothing
@@ -146,5 +131,5 @@ pub made_matched :
     ((i : ℕ) (m : Matched) (q : F) → Called g f (i, tt) m q → (q ≡ f) × (m ≡ said events rows i)) →
     (ms : List Matched) (n : ℕ) → IsFromFnResult g f ms n → ms ≡ matched_all events n rows
 made_matched g f events rows calls ms n all =
-    made g f (said events rows) nothing calls ms n (matched_all events n rows) (length-matched_all events n rows)
+    made g f (said events rows) nothing calls ms n (matched_all events n rows) (length_matched events n rows)
     (λ i below. get_or-matched_all events n rows i below) all

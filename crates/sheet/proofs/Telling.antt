@@ -11,7 +11,7 @@ use Rattle.watch.specs.Watchers.{Watching, most_marks}
 use Rattle.osl.specs.declared.event.Event.{Event}
 use Rattle.osl.specs.declared.row.Row.{Row}
 use Rattle.osl.specs.declared.matched.Matched.{Matched}
-use Rattle.osl.specs.Resolving.{no_events, matched_by}
+use Rattle.osl.specs.Resolving.{matched_by}
 use Rattle.osl.specs.Osl.{Holds}
 use Rattle.osl.specs.Terms.{row_formula}
 use Rattle.osl.specs.Traces.{trace, class_of}
@@ -23,11 +23,11 @@ use Rattle.rows.specs.Meaning.{Declared, Lawful, Tells}
 use Rattle.rows.proofs.Meaning.{row_means_its_formula}
 use Rattle.expression.specs.Formulas.{Formula, term, not, and, or, implies, TrueOf}
 use Rattle.limits.specs.Questions.{product, all_yes}
-use Rattle.sheet.specs.Joints.{joint, marks_at, matched_all, watched}
+use Rattle.sheet.specs.Joints.{joint, marks_at, matched_all, nothing, watched}
 use Rattle.sheet.specs.Meaning.{at_row, RowTrue, RowTold, Means}
 use Rattle.sheet.specs.Limits.{Bounds, within, lawful_rows, declared, events_differ}
 use Rattle.sheet.specs.Parts.{part, part_start, part_next, length_matched, matched_at, shown→broken, broken→shown}
-use Rattle.sheet.specs.Watched.{stepping, showing, no_mark_past, sheet_lawful}
+use Rattle.sheet.specs.Watched.{stepping, showing, no_mark_past, some_row, sheet_lawful}
 
 -- ## Row number i
 
@@ -65,9 +65,6 @@ module _
     abbrev ms : List Matched
     ms = matched_all events most_marks rows
 
-    abbrev none : Matched
-    none = record { first = no_events; second = no_events }
-
     law : watchers.Lawful w
     law = sheet_lawful events rows lim
 
@@ -90,9 +87,9 @@ module _
       part_passed zero = part_start rows i
       part_passed (suc k) =
           ap (λ (s : ℕ). part rows i s) (passed_more k) ∙
-          (part_next rows ms (digits_of (run k)) i d none (passed w run k) here (omega (arith, length_matched events most_marks rows, lim.few_rows)) ∙
+          (part_next rows ms (digits_of (run k)) i d nothing (passed w run k) here (omega (arith, length_matched events most_marks rows, lim.few_rows)) ∙
           ap₂ (λ (m : Matched) (s : ℕ). moved row m (digits_of (run k)) s)
-          (matched_at events most_marks rows i d none here lim.few_rows) (part_passed k))
+          (matched_at events most_marks rows i d nothing here lim.few_rows) (part_passed k))
 
       shown_is : (k : ℕ) → w.shown (passed w run k) ≡ marks_at rows (passed w run k)
       shown_is k = showing events rows (passed w run k) (passed_below k)
@@ -169,10 +166,6 @@ true_like P Q e (implies f g) =
     let a = true_like P Q e f in
     let b = true_like P Q e g in
     record { then = λ h x. b.then (h (a.back x)); back = λ h x. b.back (h (a.then x)) }
-
-some_row : (rows : List Row) → 1 ≤ length rows → Row
-some_row [] h = absurd (let q : ⊥ = omega arith in q)
-some_row (r ∷ rs) h = r
 
 -- what is asked of a sheet does not hang on what it keeps, so the theorem is for every expression over its rows
 pub means : (events : List Event) (rows : List Row) (own keep : Formula) → all_yes events rows own ≡ true → Means events rows keep

@@ -1,11 +1,10 @@
 -- A word that is right over a sheet's watcher is right in OSL. Assumes nothing.
 use Rattle.std.proofs.Common.{ℕ, List, [], ◌∷◌}
-use Rattle.watch.specs.Watchers.{Watching}
 use Rattle.osl.specs.declared.event.Event.{Event}
 use Rattle.osl.specs.declared.row.Row.{Row}
 use Rattle.expression.specs.Formulas.{Formula}
 use Rattle.monitor.specs.Words.{RightWord}
-use Rattle.monitor.specs.Plain.{Plain, RightAnswer, Agrees, AnswersBy, AgreesBy, after}
+use Rattle.monitor.specs.Plain.{Plain, AnswersBy, AgreesBy, after}
 use Rattle.monitor.specs.declared.word.Word.{Word}
 use Rattle.monitor.specs.declared.calls.Call.{Call}
 use Rattle.monitor.specs.declared.calls.Call.TheVariants.{Note, Close, Ask}
@@ -32,19 +31,6 @@ right_word events rows keep m closed word right =
                 λ none. right.satisfied.back (λ run over begins broken. none run over begins (λ kept. broken ((m.kept run over).back kept)));
           };
     }
-
--- answers that agree with the plain monitor's agree over the watcher's events, where the right word is the watcher's
-module _ (w : Watching) (f : Formula) where
-  answers_by : (p : Plain) (c : Call) (a : Answer) → RightAnswer w f p c a → AnswersBy w.events (RightWord w f) p c a
-  answers_by p (Note e k) a h = h
-  answers_by p Close a h = h
-  answers_by p Ask a h = h
-
-  pub agrees_by : (p : Plain) (cs : List Call) (more : List Answer) → Agrees w f p cs more → AgreesBy w.events (RightWord w f) p cs more
-  agrees_by p [] [] h = tt
-  agrees_by p [] (a ∷ more) h = h
-  agrees_by p (c ∷ cs) [] h = h
-  agrees_by p (c ∷ cs) (a ∷ more) h = (answers_by p c a h.0, agrees_by (after w.events p c) cs more h.1)
 
 -- answers that agree where one word is right agree where another is that follows from it
 module _ (g : ℕ) (R S : List ℕ → Word → Type 0) (so : (closed : List ℕ) (word : Word) → R closed word → S closed word) where

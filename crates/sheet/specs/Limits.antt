@@ -123,10 +123,6 @@ none_of : (e : Event) (es : List Event) → list_any (events_clash e) es ≡ fal
 none_of e [] h = tt
 none_of e (d ∷ ds) h = let p = or_parts (events_clash e d) (list_any (events_clash e) ds) h in (p.0, none_of e ds p.1)
 
-all_map : {X : Type 0} {P Q : X → Type 0} → ((x : X) → P x → Q x) → (xs : List X) → AllByRecursion P xs → AllByRecursion Q xs
-all_map f [] h = tt
-all_map f (x ∷ xs) h = (f x h.0, all_map f xs h.1)
-
 all_two : {X : Type 0} {P Q R : X → Type 0} → ((x : X) → P x → Q x → R x) → (xs : List X) → AllByRecursion P xs → AllByRecursion Q xs → AllByRecursion R xs
 all_two f [] h k = tt
 all_two f (x ∷ xs) h k = (f x h.0 k.0, all_two f xs h.1 k.1)
@@ -163,7 +159,7 @@ differ [] h = tt
 differ (e ∷ es) h =
     let p = and_parts (not (list_any (events_clash e) es)) (apart events_clash es) h in
     let fine = none_of e es (not-true (list_any (events_clash e) es) p.0) in (
-      members (λ y. SameEvent (as_event e) y → ⊥) es (all_map (λ d f. not_same e d f) es fine),
+      members (λ y. SameEvent (as_event e) y → ⊥) es (all_two (λ d f _. not_same e d f) es fine fine),
       differ es p.1,
     )
 

@@ -8,14 +8,12 @@ use Rattle.watch.specs.Watchers.{Watching, Lawful, most_marks}
 use Rattle.watch.proofs.Bits.{has_from, has_past}
 use Rattle.osl.specs.declared.event.Event.{Event}
 use Rattle.osl.specs.declared.row.Row.{Row}
-use Rattle.osl.specs.declared.matched.Matched.{Matched}
-use Rattle.osl.specs.Resolving.{no_events}
 use Rattle.watch.specs.Steps.{digits_of}
 use Rattle.rows.specs.Stepping.{moved, broken}
 use Rattle.rows.proofs.Bounds.{moved_broken}
 use Rattle.limits.specs.Questions.{product}
 use Rattle.limits.proofs.Products.{product_pos}
-use Rattle.sheet.specs.Joints.{joint, marks_at, matched_all, watched}
+use Rattle.sheet.specs.Joints.{joint, marks_at, matched_all, nothing, watched}
 use Rattle.sheet.specs.Limits.{Bounds}
 use Rattle.sheet.specs.Parts.{part, joint_below, part_next, length_matched, shown→broken, broken→shown, marks_below}
 
@@ -57,10 +55,9 @@ module _ (events : List Event) (rows : List Row) where
       (i : ℕ) (d : Row) (s a : ℕ) → i < length rows → length rows ≤ most_marks → part rows i s ≡ broken (slice_index_or rows i d) →
       part rows i (joint rows (matched_all events most_marks rows) (digits_of a) s) ≡ broken (slice_index_or rows i d)
   broken_stays i d s a here few is =
-      let none : Matched = record { first = no_events; second = no_events } in
-      part_next rows (matched_all events most_marks rows) (digits_of a) i d none s here (omega (arith, length_matched events most_marks rows)) ∙
-      (ap (λ (n : ℕ). moved (slice_index_or rows i d) (slice_index_or (matched_all events most_marks rows) i none) (digits_of a) n) is ∙
-      moved_broken (slice_index_or rows i d) (slice_index_or (matched_all events most_marks rows) i none) (digits_of a))
+      part_next rows (matched_all events most_marks rows) (digits_of a) i d nothing s here (omega (arith, length_matched events most_marks rows)) ∙
+      (ap (λ (n : ℕ). moved (slice_index_or rows i d) (slice_index_or (matched_all events most_marks rows) i nothing) (digits_of a) n) is ∙
+      moved_broken (slice_index_or rows i d) (slice_index_or (matched_all events most_marks rows) i nothing) (digits_of a))
 
   mark_stays :
       (i : ℕ) (d : Row) (s a : ℕ) → length rows ≤ most_marks → Has (suc i) (marks_at rows s) →
@@ -73,7 +70,7 @@ module _ (events : List Event) (rows : List Row) where
         | inr past ↦ absurd (no_mark_past i s past mark)
       ]
 
-some_row : (rows : List Row) → 1 ≤ length rows → Row
+pub some_row : (rows : List Row) → 1 ≤ length rows → Row
 some_row [] h = absurd (let q : ⊥ = omega arith in q)
 some_row (r ∷ rs) h = r
 

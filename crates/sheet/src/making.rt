@@ -15,7 +15,7 @@ fn idle(heap: Global) -> Result<Event, AllocError>
     ensures { IfOk result Idle }
 {
     let Some(name) = Name::new(String::from_str(heap, "idle")?) else {
-        unreachable()
+        unreachable!()
     };
     Ok(Event {
         name,
@@ -34,7 +34,7 @@ impl Sheet {
         let mut rows = Vec::new(heap);
         rows.push(Row::Always(Test::True))?;
         let Ok(sheet) = Sheet::new(events, rows, Expression::blank()) else {
-            unreachable()
+            unreachable!()
         };
         Ok(sheet)
     }

@@ -56,7 +56,7 @@ impl<'a> Terms<'a> {
     {
         let events = self.events.len() as u8;
         let (Some(states), Some(letters)) = (state_count(self.rows), letter_count(events)) else {
-            unreachable()
+            unreachable!()
         };
         Sizes {
             states,

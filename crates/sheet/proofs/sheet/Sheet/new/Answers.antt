@@ -38,10 +38,3 @@ invariant_of-result c =
       found = c.matched-matched.ensures ∙ these;
       sized = c.sizes-sizes.ensures ∙ size;
     }
-
-pub returns : goal.returns
-returns c = (
-  judged_parts (vec_items c.args.events) _ (vec_items c.args.rows) _ (formula c.args.keep) _
-      c.deref.ensures.value c.deref-2.ensures.value c.in_ok-terms.ensures.0,
-  record { events_are = refl; rows_are = refl; keep_is = refl },
-)

@@ -1,6 +1,6 @@
 use Rattle.std.proofs.Common.{◌≡◌, ℕ, Bool, true, false, cond, refl, ap, ◌∙◌, rules}
 use mir.Val.{bool_byte}
-use Rattle.sheet.proofs.Digits.{marked, marked_all}
+use Rattle.sheet.proofs.Digits.{marked}
 use Rattle.sheet.proofs.terms.Terms.marks.Goals as goal
 
 byte_is : (b : Bool) → ◌≡◌ {A = ℕ} (bool_byte b) (cond b 1 0)
