@@ -29,10 +29,8 @@ impl Sheet {
     pub fn blank(heap: Global) -> Result<Sheet, AllocError>
         ensures { IfOk result Blank }
     {
-        let mut events = Vec::new(heap);
-        events.push(idle(heap)?)?;
-        let mut rows = Vec::new(heap);
-        rows.push(Row::Always(Test::True))?;
+        let events = vec![in heap; idle(heap)?]?;
+        let rows = vec![in heap; Row::Always(Test::True)]?;
         let Ok(sheet) = Sheet::new(events, rows, Expression::blank()) else {
             unreachable!()
         };

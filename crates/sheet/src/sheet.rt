@@ -23,6 +23,7 @@ pub struct Sheet {
     pub(crate) events: Vec<Event>,
     pub(crate) rows: Vec<Row>,
     pub(crate) keep: Expression,
+    // An array beside the rows, and no second list: a sheet is made of its parts without allocating.
     pub(crate) matched: [Matched; PLACES],
     pub(crate) sizes: Sizes,
     ghost lawful: { all_yes events.items rows.items (formula keep) ≡ true },

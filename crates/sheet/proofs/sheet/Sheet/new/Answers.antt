@@ -1,7 +1,7 @@
-use Rattle.std.proofs.Common.{◌≡◌, List, None, Option, vec_items, ◌∙◌, sym, ap₂, refl}
+use Rattle.std.proofs.Common.{◌≡◌, List, None, Option, vec_items, ◌∙◌, sym, ap₂}
 use Rattle.std.proofs.lemmas.Result.{err_from_is_err_and}
-use Rattle.watch.specs.Watchers.{most_marks}
 use Rattle.watch.specs.Sizes.{sizes_of}
+use Rattle.watch.specs.Watchers.{most_marks}
 use Rattle.osl.specs.declared.event.Event.{Event}
 use Rattle.osl.specs.declared.row.Row.{Row}
 use Rattle.expression.specs.Expressions.{formula}
@@ -30,11 +30,10 @@ invariant_of-result c =
     let events = vec_items c.args.events in
     let rows = vec_items c.args.rows in
     let keep = formula c.args.keep in
-    let none : judged events rows keep ≡ None = judged_parts events _ rows _ keep _ c.deref.ensures.value c.deref-2.ensures.value ok.0 in
-    let these = ap₂ (λ (es : List Event) (rs : List Row). matched_all es most_marks rs) (ok.1 ∙ c.deref.ensures.value) (ok.2 ∙ c.deref-2.ensures.value) in
-    let size = ap₂ (λ (es : List Event) (rs : List Row). sizes_of (watched es rs)) (ok.1 ∙ c.deref.ensures.value) (ok.2 ∙ c.deref-2.ensures.value) in
+    let es : c.in_ok-terms.terms.events.now ≡ events = ok.1 ∙ c.deref.ensures.value in
+    let rs : c.in_ok-terms.terms.rows.now ≡ rows = ok.2 ∙ c.deref-2.ensures.value in
     record {
-      lawful = all_said_yes events rows keep none;
-      found = c.matched-matched.ensures ∙ these;
-      sized = c.sizes-sizes.ensures ∙ size;
+      lawful = all_said_yes events rows keep (judged_parts events _ rows _ keep None c.deref.ensures.value c.deref-2.ensures.value ok.0);
+      found = c.matched-matched.ensures ∙ ap₂ (λ (x : List Event) (y : List Row). matched_all x most_marks y) es rs;
+      sized = c.sizes-sizes.ensures ∙ ap₂ (λ (x : List Event) (y : List Row). sizes_of (watched x y)) es rs;
     }
