@@ -1,7 +1,6 @@
 -- Numbers with a digit for each row, taken apart and put together row by row. Assumes nothing.
-use Rattle.std.proofs.Common.{◌≡◌, ℕ, zero, suc, ◌+◌, ◌*◌, ◌/◌, ◌%◌, ◌^◌, ◌<◌, ◌≤◌, cond, eqb, List, [], ◌∷◌, length, get_or, drop, ◌⊎◌, ⊎_elim, refl, sym, ap, subst, ◌∙◌, le-mul_of_pos_right, mod-lt, mul_assoc, mul_comm, mul-le-mul_left, pow-suc, mul-zero, mul-one, mul-add, arith, lit<}
-use native.Mathlib.Nat.{pow-le-pow_right}
-use Rattle.std.proofs.lemmas.List.{at_drop_more, at_drop_all}
+use Rattle.std.proofs.Common.{◌≡◌, ℕ, zero, suc, ◌+◌, ◌*◌, ◌/◌, ◌%◌, ◌^◌, ◌<◌, ◌≤◌, cond, eqb, List, [], ◌∷◌, length, get_or, drop, ◌⊎◌, ⊎_elim, refl, sym, ap, subst, ◌∙◌, le-mul_of_pos_right, mod-lt, mul_assoc, mul_comm, mul-le-mul_left, pow-suc, mul-zero, mul-one, mul-add, arith}
+use Rattle.std.proofs.lemmas.List.{at_drop_more}
 use Rattle.std.specs.Prelude.{slice_get}
 use Rattle.std.specs.Option.{option_map_or}
 use Rattle.std.specs.Array.{IsFromFnResult}
