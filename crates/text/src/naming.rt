@@ -1,6 +1,5 @@
-// Making a name of a text, and comparing names.
+// Making a name of a text.
 ghost use Rattle.std.specs.Prelude.{◌≡◌, true, false, string_bytes, MatchOption};
-ghost use Rattle.std.specs.Str.{bytes_eq};
 ghost use Rattle.std.specs.List.{list_all};
 ghost use Rattle.text.specs.NameForms.{name_byte, name_form};
 ghost use Rattle.text.specs.Names.{name_bytes};
@@ -43,11 +42,5 @@ impl Name {
         ensures { result.now ≡ name_bytes self.now }
     {
         self.text.as_str()
-    }
-
-    pub fn is(&self, other: &Name) -> bool
-        ensures { result ≡ bytes_eq (name_bytes self.now) (name_bytes other.now) }
-    {
-        self == other
     }
 }
