@@ -29,8 +29,8 @@ fn mixed(state: u16, letter: u16, count: u16) -> u16
     requires some { 0 < count }
     ensures { result ≡ (state * 7 + letter * 13 + 1) % count }
 {
-    let number = state as u32 * 7 + letter as u32 * 13 + 1;
-    (number % count as u32) as u16
+    let number = u32::from(state) * 7 + u32::from(letter) * 13 + 1;
+    (number % u32::from(count)) as u16
 }
 
 // One towards the last state.

@@ -1,5 +1,5 @@
 // The terms of the worked case.
-use anyhow::anyhow;
+use anyhow::{Context, anyhow};
 use expression::Expression;
 use osl::{Class, Count, Event, Param, Pattern, Row, Test};
 use sheet::Sheet;
@@ -7,10 +7,7 @@ use std::alloc::Global;
 use text::Name;
 
 fn name(heap: Global, text: &str) -> anyhow::Result<Name> {
-    match Name::new(String::from_str(heap, text)?) {
-        Some(name) => Ok(name),
-        None => Err(anyhow!("this is no name")),
-    }
+    Name::new(String::from_str(heap, text)?).context("this is no name")
 }
 
 // The parameter `object` with this value, alone.
