@@ -1,5 +1,8 @@
 // What an argument asks for: a kind of work, a number of states and how often, with commas between.
 use crate::shape::Shape;
+use std::error::Error;
+use std::fmt;
+use std::str::{FromStr, Split};
 
 #[derive(Clone, Copy)]
 pub enum Kind {
@@ -20,32 +23,57 @@ pub struct Case {
     pub times: u32,
 }
 
-fn kind_of(word: &str) -> Option<Kind> {
-    match word {
-        "up" => Some(Kind::Computed(Shape::Up)),
-        "down" => Some(Kind::Computed(Shape::Down)),
-        "round" => Some(Kind::Computed(Shape::Round)),
-        "back" => Some(Kind::Computed(Shape::Back)),
-        "mixed" => Some(Kind::Computed(Shape::Mixed)),
-        "late" => Some(Kind::Computed(Shape::Late)),
-        "drawn-up" => Some(Kind::Drawn(Shape::Up)),
-        "drawn-down" => Some(Kind::Drawn(Shape::Down)),
-        "pair" => Some(Kind::Pair),
-        "close" => Some(Kind::Close),
-        _ => None,
+// What an argument asks for is said otherwise.
+#[derive(Clone, Copy, PartialEq, Eq, Debug)]
+pub struct NoCase;
+
+impl FromStr for Kind {
+    type Err = NoCase;
+
+    fn from_str(word: &str) -> Result<Kind, NoCase> {
+        match word {
+            "up" => Ok(Kind::Computed(Shape::Up)),
+            "down" => Ok(Kind::Computed(Shape::Down)),
+            "round" => Ok(Kind::Computed(Shape::Round)),
+            "back" => Ok(Kind::Computed(Shape::Back)),
+            "mixed" => Ok(Kind::Computed(Shape::Mixed)),
+            "late" => Ok(Kind::Computed(Shape::Late)),
+            "drawn-up" => Ok(Kind::Drawn(Shape::Up)),
+            "drawn-down" => Ok(Kind::Drawn(Shape::Down)),
+            "pair" => Ok(Kind::Pair),
+            "close" => Ok(Kind::Close),
+            _ => Err(NoCase),
+        }
     }
 }
 
-impl Case {
-    pub fn of(word: &str) -> Option<Case> {
+// The next part, if it can be read.
+fn next<T>(parts: &mut Split<'_, char>) -> Result<T, NoCase>
+where
+    T: FromStr + Drop,
+    T::Err: Drop,
+{
+    let word = parts.next().ok_or(NoCase)?;
+    word.parse().map_err(|_| NoCase)
+}
+
+impl FromStr for Case {
+    type Err = NoCase;
+
+    fn from_str(word: &str) -> Result<Case, NoCase> {
         let mut parts = word.split(',');
-        let kind = kind_of(parts.next()?)?;
-        let states = parts.next()?.parse().ok()?;
-        let times = parts.next()?.parse().ok()?;
-        Some(Case {
-            kind,
-            states,
-            times,
+        Ok(Case {
+            kind: next(&mut parts)?,
+            states: next(&mut parts)?,
+            times: next(&mut parts)?,
         })
     }
 }
+
+impl fmt::Display for NoCase {
+    fn fmt<W: fmt::Write>(&self, f: &mut fmt::Formatter<W>) -> fmt::Result {
+        f.write_str("a case is a kind, a number of states and how often, as up,1000,5")
+    }
+}
+
+impl Error for NoCase {}

@@ -1,9 +1,9 @@
 // Closing steps: the notes of each step, its closing, and the word after it.
 use anyhow::anyhow;
 use expression::Expression;
-use monitor::{Monitor, Refusal, Word};
+use monitor::{Monitor, Word};
 use std::time::Instant;
-use watch::{DIGITS, MOST_EVENTS, Watcher};
+use watch::{Step, Watcher};
 
 // Over two tables of 100 states the word changes late in a million steps.
 const SEED: u32 = 12;
@@ -21,19 +21,6 @@ fn stirred(seed: u32) -> u32 {
     seed.wrapping_mul(1_103_515_245).wrapping_add(12_345)
 }
 
-// Notes the events of the letter, whose digits they are, and closes the step.
-fn close<W: Watcher>(monitor: &mut Monitor<W>, letter: u16) -> Result<(), Refusal> {
-    let mut rest = letter;
-    for event in 0..MOST_EVENTS {
-        let kind = (rest % DIGITS) as u8;
-        rest /= DIGITS;
-        if kind != 0 {
-            monitor.note(event, kind)?;
-        }
-    }
-    monitor.close()
-}
-
 // Closes so many steps of a monitor over the watcher, for term 1.
 pub fn time_closings<W: Watcher + Drop>(
     rt: &HostRuntime,
@@ -47,7 +34,8 @@ pub fn time_closings<W: Watcher + Drop>(
     let begun = Instant::now(rt)?;
     for _ in 0..times {
         seed = stirred(seed);
-        if close(&mut monitor, ((seed >> 16) % letters) as u16).is_err() {
+        let step = Step::of(((seed >> 16) % letters) as u16);
+        if monitor.close_with(step).is_err() {
             return Err(anyhow!("a note or a closing was refused"));
         }
         if let (Word::Open, _) = monitor.verdict() {

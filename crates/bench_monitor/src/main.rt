@@ -58,10 +58,10 @@ fn open_all(rt: &HostRuntime, case: Case) -> anyhow::Result<()> {
         last = open_once(rt, case)?;
         least = least.min(last.nanos);
     }
-    let keepable = last.keepable;
-    let breakable = last.breakable;
-    let word = last.word;
-    println!(rt; "keepable {keepable}, breakable {breakable}, {word}")?;
+    println!(rt;
+        "keepable {}, breakable {}, {}",
+        last.keepable, last.breakable, last.word
+    )?;
     eprintln!(rt; "{least}")?;
     Ok(())
 }
@@ -70,18 +70,14 @@ fn open_all(rt: &HostRuntime, case: Case) -> anyhow::Result<()> {
 fn close_all(rt: &HostRuntime, case: Case) -> anyhow::Result<()> {
     let pair = pair_of(rt.alloc(), case.states)?;
     let closed = time_closings(rt, pair, case.times)?;
-    let open = closed.open;
-    let nanos = closed.nanos;
-    println!(rt; "open after {open} steps")?;
-    eprintln!(rt; "{nanos}")?;
+    println!(rt; "open after {} steps", closed.open)?;
+    eprintln!(rt; "{}", closed.nanos)?;
     Ok(())
 }
 
 fn run(rt: &HostRuntime) -> anyhow::Result<()> {
     for word in env::args(rt)?.skip(1) {
-        let Some(case) = Case::of(word.as_str()) else {
-            return Err(anyhow!("a case is a kind, a number of states and how often, as up,1000,5"));
-        };
+        let case: Case = word.parse()?;
         match case.kind {
             Kind::Close => close_all(rt, case)?,
             _ => open_all(rt, case)?,

@@ -8,21 +8,15 @@ use watch::Watcher;
 // What both programs must agree on, and the time that it took.
 #[derive(Clone, Copy)]
 pub struct Opened {
-    pub keepable: u32,
-    pub breakable: u32,
+    pub keepable: usize,
+    pub breakable: usize,
     pub word: Word,
     pub nanos: u128,
 }
 
 // How many are true.
-fn count(table: &[bool]) -> u32 {
-    let mut count = 0u32;
-    for is in table.iter() {
-        if *is {
-            count = count.wrapping_add(1);
-        }
-    }
-    count
+fn count(table: &[bool]) -> usize {
+    table.iter().filter(|is| **is).count()
 }
 
 // Opens a monitor over the watcher, for term 1. The states are counted outside of the time.

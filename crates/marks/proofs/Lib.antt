@@ -1,4 +1,2 @@
 mod Lines
-mod Spelling
-mod Closing
 mod Telling

@@ -1,12 +1,17 @@
 -- The monitor along the letters, and the lines of its words. Assumes nothing.
-use Rattle.std.proofs.Common.{◌≡◌, ℕ, zero, suc, ◌+◌, ◌<◌, ◌≤◌, min, cond, ltb, leb, List, [], ◌∷◌, ◌++◌, length, get_or, take, is_ok, Ok, Err, Result, sym, refl, ap, ◌∙◌, subst, ap₂, subst₂, ⊎_elim, add-one, arith}
+use Rattle.std.proofs.Common.{◌≡◌, ℕ, zero, suc, ◌+◌, ◌^◌, ◌<◌, ◌≤◌, min, cond, ltb, leb, List, [], ◌∷◌, ◌++◌, length, get_or, take, is_ok, Ok, Err, Result, sym, refl, ap, ◌∙◌, subst, ap₂, subst₂, ⊎_elim, add-one, arith}
+use Rattle.std.proofs.Math.Nat.{pow-le-pow_right}
 use Rattle.std.proofs.lemmas.List.{take_more, length-take-le}
 use Rattle.std.proofs.lemmas.Bool.{cases_lt, cond-true, cond-false, le-leb, lt-leb, lt-ltb, le-ltb}
-use Rattle.watch.specs.Letters.{letter_count, most_events}
+use Rattle.watch.specs.Letters.{digits, letter_count, most_events}
+use Rattle.watch.specs.Steps.{digits_of, spelt, step_digits}
+use Rattle.watch.specs.declared.step.Step.{Step}
+use Rattle.watch.proofs.Spelling.{within_letter}
 use Rattle.watch.specs.Watchers.{Watching}
 use Rattle.expression.specs.Formulas.{Formula}
 use Rattle.expression.specs.Expressions.{formula}
 use Rattle.monitor.specs.Plain.{Plain, opened, close_answer, most_closed}
+use Rattle.monitor.specs.Closing.{kept_notes, after_step, ClosesWith}
 use Rattle.monitor.specs.Refusals.{refusal_number}
 use Rattle.monitor.specs.Words.{RightWord}
 use Rattle.monitor.specs.inner.Standing.{Represents, Same}
@@ -15,8 +20,6 @@ use Rattle.monitor.specs.declared.refusal.Refusal.{Refusal}
 use Rattle.monitor.specs.declared.refusal.Refusal.TheVariants.{Steps}
 use Rattle.monitor.specs.declared.word.Word.{Word}
 use Rattle.marks.specs.WordTexts.{new_line, change_line, closed_line, refused_line, word_lines, last_line, RightText}
-use Rattle.marks.specs.inner.Spelling.{after_letter, ClosesWith}
-use Rattle.marks.proofs.Spelling.{with_notes, up_to}
 
 -- The text so far is that of the right words of the first n steps, and the last of them is `last`.
 pub record Told (w : Watching) (f : Formula) (letters : List ℕ) (n : ℕ) (text : List ℕ) (last : Word) : Type 0 where
@@ -92,17 +95,22 @@ module _ {W : Type 0} (watch : W → Watching) (m : Monitor W) (letters : List �
     told = told_none w f letters text new (says opened stands).1 is;
   }
 
-  module _ (i : ℕ) (n : Monitor W) (text : List ℕ) (before : Word) (x : Walks w f letters m i n text before) (lt : i < length letters) (small : get_or letters i 0 < letter_count w.events) (k : Monitor W) (r : Result (Unit {0}) Refusal) (closes : ClosesWith (watch n.watcher) (formula n.expression) n (get_or letters i 0) r k) where
+  module _ (i : ℕ) (n : Monitor W) (text : List ℕ) (before : Word) (x : Walks w f letters m i n text before) (lt : i < length letters) (small : get_or letters i 0 < letter_count w.events) (k : Monitor W) (r : Result (Unit {0}) Refusal)
+      (few : w.events ≤ most_events) (step : Step) (of : step_digits step ≡ digits_of (get_or letters i 0)) (spells : get_or letters i 0 < letter_count most_events → spelt (step_digits step) ≡ get_or letters i 0)
+      (closes : ClosesWith (watch n.watcher) (formula n.expression) n step r k) where
     abbrev a : ℕ
     a = get_or letters i 0
 
     abbrev here : Plain
     here = record { closed = take i letters; notes = [] }
 
-    answers : (r ≡ close_answer here) × Represents w f k (after_letter (take i letters) a)
+    letter : spelt (step_digits step) ≡ a
+    letter = let more : digits ^ w.events ≤ digits ^ most_events = pow-le-pow_right {n = digits} (omega arith) few in spells (omega arith)
+
+    answers : (r ≡ close_answer here) × Represents w f k (after_step (take i letters) step)
     answers =
-        let does : ClosesWith w f n a r k = subst₂ (λ v e. ClosesWith (watch v) (formula e) n a r k) x.same.watcher x.same.expression closes in
-        does (take i letters) small x.stands
+        let does : ClosesWith w f n step r k = subst₂ (λ v e. ClosesWith (watch v) (formula e) n step r k) x.same.watcher x.same.expression closes in
+        does (take i letters) (within_letter a w.events step of small) x.stands
 
     count : length (take i letters) ≡ i
     count = length-take-le i letters (omega arith)
@@ -121,7 +129,8 @@ module _ {W : Type 0} (watch : W → Watching) (m : Monitor W) (letters : List �
           let ok : close_answer here ≡ Ok tt = sym answers.0 ∙ taken in
           let longer : take (suc i) letters ≡ take i letters ++ (a ∷ []) = ap (λ (j : ℕ). take j letters) (sym (add-one i)) ∙ take_more letters i 0 lt in
           subst (λ (l : List ℕ). Represents w f k (record { closed = l; notes = [] })) (sym longer)
-          (subst (Represents w f k) (ap (λ (z : Result (Unit {0}) Refusal). cond (is_ok z) (with_notes (take i letters ++ (a ∷ [])) []) (up_to (take i letters) a most_events)) ok) answers.1)
+          (subst (λ (n : ℕ). Represents w f k (record { closed = take i letters ++ n ∷ []; notes = [] })) letter
+          (subst (Represents w f k) (ap (λ (z : Result (Unit {0}) Refusal). cond (is_ok z) (record { closed = take i letters ++ spelt (step_digits step) ∷ []; notes = [] }) (record { closed = take i letters; notes = kept_notes 0 step.kinds })) ok) answers.1))
 
       pub walks_more : Same n k → (new : Word) (c : ℕ) → Says (watch k.watcher) (formula k.expression) k new c
           → (line later : List ℕ) → line ≡ change_line i before new → later ≡ text ++ line → Walks w f letters m (i + 1) k later new

@@ -1,4 +1,3 @@
 pub mod Records
 pub mod WordTexts
 pub mod Evenings
-pub mod inner

@@ -1,48 +1,12 @@
 // The words of an evening as text.
 ghost use Rattle.std.specs.Prelude.{◌≡◌, IfOk, string_bytes};
 ghost use Rattle.expression.specs.Expressions.{formula};
-ghost use Rattle.monitor.specs.inner.Standing.{Same};
 ghost use Rattle.marks.specs.WordTexts.{new_line, change_line, closed_line, refused_line, Tells};
-ghost use Rattle.marks.specs.inner.Spelling.{NotesDigit, NotesLetter, ClosesWith};
 
 use expression::Expression;
-use monitor::{Monitor, Refusal, Word};
+use monitor::{Monitor, Word};
 use std::alloc::{AllocError, Global};
-use watch::{DIGITS, MOST_EVENTS, Watcher};
-
-// Notes the event with its digit, unless the digit says that it is absent.
-fn note_digit<W: Watcher>(monitor: &mut Monitor<W>, event: u8, digit: u8) -> Result<(), Refusal>
-    ensures same { Same monitor.old monitor.new }
-    ensures notes { NotesDigit (W.watching monitor.old.watcher) (formula monitor.old.expression) monitor.old event digit result monitor.new }
-{
-    if digit == 0 {
-        return Ok(());
-    }
-    monitor.note(event, digit)
-}
-
-// Notes what the letter says of each event.
-fn note_letter<W: Watcher>(monitor: &mut Monitor<W>, letter: u16) -> Result<(), Refusal>
-    ensures same { Same monitor.old monitor.new }
-    ensures notes { NotesLetter (W.watching monitor.old.watcher) (formula monitor.old.expression) monitor.old letter result monitor.new }
-{
-    let mut rest = letter;
-    for event in 0..MOST_EVENTS {
-        let digit = (rest % DIGITS) as u8;
-        note_digit(monitor, event, digit)?;
-        rest /= DIGITS;
-    }
-    Ok(())
-}
-
-// Notes what the letter says of each event, and closes the step.
-fn close_with<W: Watcher>(monitor: &mut Monitor<W>, letter: u16) -> Result<(), Refusal>
-    ensures same { Same monitor.old monitor.new }
-    ensures closes { ClosesWith (W.watching monitor.old.watcher) (formula monitor.old.expression) monitor.old letter result monitor.new }
-{
-    note_letter(monitor, letter)?;
-    monitor.close()
-}
+use watch::{Step, Watcher};
 
 // The line of the word that nothing has changed yet.
 fn new_line(heap: Global, word: Word) -> Result<String, AllocError>
@@ -89,7 +53,7 @@ pub fn words<W: Watcher + Drop>(
     let mut text = new_line(heap, new)?;
     let mut before = new;
     for (step, letter) in letters.iter().enumerate() {
-        if let Err(refusal) = close_with(&mut monitor, *letter) {
+        if let Err(refusal) = monitor.close_with(Step::of(*letter)) {
             let last = refused_line(heap, refusal.number(), step + 1)?;
             text.push_str(last.as_str())?;
             return Ok(text);

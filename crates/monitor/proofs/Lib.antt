@@ -1,4 +1,6 @@
 mod Noting
+mod Making
+mod Shutting
 mod Resting
 mod Words
 mod Agreeing

@@ -11,7 +11,7 @@ use Rattle.watch.specs.Steps.{digit_of, spelt, step_digits}
 use Rattle.watch.specs.Watchers.{Watching, Lawful}
 use Rattle.watch.specs.declared.kind.Kind.{Kind}
 use Rattle.watch.specs.declared.kind.Kind.TheVariants.{Starting, Ongoing}
-use Rattle.watch.proofs.Spelling.{digit_few}
+use Rattle.watch.proofs.Spelling.{digit_few, digit_at, digit_of_none}
 use Rattle.monitor.specs.Plain.{Plain, NoteOf, noted, letter, note_answer, close_answer, most_closed, after}
 use Rattle.monitor.specs.inner.Running.{Follows, Notes, reached, Spelled}
 use Rattle.monitor.specs.declared.running.Running.{Running}
@@ -19,11 +19,11 @@ use Rattle.monitor.specs.declared.refusal.Refusal.{Refusal}
 use Rattle.monitor.specs.declared.refusal.Refusal.TheVariants.{Event, Noted, Steps}
 use Rattle.monitor.specs.declared.calls.Call.TheVariants.{Note, Close}
 
-letter_more : (ns : List NoteOf) (n : NoteOf) → letter (ns ++ (n ∷ [])) ≡ letter ns + n.kind * (digits ^ n.event)
+pub letter_more : (ns : List NoteOf) (n : NoteOf) → letter (ns ++ (n ∷ [])) ≡ letter ns + n.kind * (digits ^ n.event)
 letter_more [] n = omega arith
 letter_more (m ∷ ns) n = omega (arith, letter_more ns n)
 
-noted_more : (ns : List NoteOf) (n : NoteOf) (e : ℕ) → noted (ns ++ (n ∷ [])) e ≡ (noted ns e || eqb n.event e)
+pub noted_more : (ns : List NoteOf) (n : NoteOf) (e : ℕ) → noted (ns ++ (n ∷ [])) e ≡ (noted ns e || eqb n.event e)
 noted_more [] n e = or-false _
 noted_more (m ∷ ns) n e = ap (λ (b : Bool). eqb m.event e || b) (noted_more ns n e) ∙ sym (or_assoc (eqb m.event e) _ _)
 
@@ -61,16 +61,6 @@ module _ (g : ℕ) (notes : List NoteOf) (ds : List ℕ) (few : g ≤ most_event
     absent = λ i past. get_or-set_other ds e i k 0 (omega arith) ∙ x.absent i past;
   }
 
-digit_of_none : (k : Option Kind) → digit_of k ≡ 0 → k ≡ None
-digit_of_none None none = refl
-digit_of_none (Some Starting) none = absurd (omega arith)
-digit_of_none (Some Ongoing) none = absurd (omega arith)
-
-digit_at : (ks : List (Option Kind)) (e : ℕ) → get_or (map digit_of ks) e 0 ≡ digit_of (get_or ks e None)
-digit_at [] e = refl
-digit_at (k ∷ ks) zero = refl
-digit_at (k ∷ ks) (suc e) = digit_at ks e
-
 pub is_free : (k : Option Kind) → is_some k ≡ false → k ≡ None
 is_free None free = refl
 is_free (Some kind) free = absurd (true≢false free)
@@ -82,7 +72,7 @@ kind_some : (k : Kind) → 0 < kind_number k
 kind_some Starting = omega arith
 kind_some Ongoing = omega arith
 
-kind_lawful : (k : Kind) → (eqb (kind_number k) 1 || eqb (kind_number k) 2) ≡ true
+pub kind_lawful : (k : Kind) → (eqb (kind_number k) 1 || eqb (kind_number k) 2) ≡ true
 kind_lawful Starting = refl
 kind_lawful Ongoing = refl
 

@@ -3,6 +3,7 @@
 
 mod answering;
 mod calls;
+mod closing;
 mod monitor;
 mod refusal;
 mod running;

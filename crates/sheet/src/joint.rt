@@ -5,7 +5,8 @@ ghost use Rattle.limits.specs.Questions.{product};
 ghost use Rattle.sheet.specs.Joints.{joint, marks_at, matched_all};
 
 use osl::{Event, EventSet, Matched, Row};
-use rows::{Step, next, shows, states};
+use rows::{next, shows, states};
+use watch::Step;
 
 // How many rows a sheet has room for.
 pub(crate) const PLACES: usize = 8;

@@ -14,8 +14,7 @@ ghost use Rattle.sheet.specs.Watched.{sheet_lawful};
 use crate::joint::{PLACES, marks_of, next_of};
 use expression::Expression;
 use osl::{Event, Matched, Row};
-use rows::Step;
-use watch::{MarkSet, Sizes, Watcher};
+use watch::{MarkSet, Sizes, Step, Watcher};
 
 const START: u16 = 0;
 

@@ -1,10 +1,12 @@
 -- The letter of some digits, read from the last digit to the first. Assumes nothing.
-use Rattle.std.proofs.Common.{◌≡◌, ℕ, zero, suc, ◌+◌, ◌*◌, ◌^◌, ◌<◌, ◌≤◌, List, [], ◌∷◌, map, length, get_or, drop, Option, None, Some, refl, ap, ap₂, ◌∙◌, arith}
-use Rattle.std.proofs.Math.Nat.{pow-succ'}
+use Rattle.std.proofs.Common.{◌≡◌, ℕ, zero, suc, ◌+◌, ◌*◌, ◌%◌, ◌^◌, ◌<◌, ◌≤◌, List, [], ◌∷◌, map, length, get_or, drop, Option, None, Some, slice_index_or, sym, refl, ap, ap₂, ◌∙◌, arith}
+use Rattle.std.proofs.Math.Nat.{pow-succ', pow-le-pow_right, div-eq_of_lt}
+use Rattle.std.proofs.Math.ListN.{get_or-map}
 use Rattle.std.specs.List.{push}
-use Rattle.watch.specs.Letters.{digits, most_events}
-use Rattle.watch.specs.Steps.{digit_of, digits_of, spelt}
+use Rattle.watch.specs.Letters.{digits, letter_count, most_events}
+use Rattle.watch.specs.Steps.{digit, digit_of, digits_of, spelt, step_digits}
 use Rattle.watch.specs.declared.kind.Kind.{Kind}
+use Rattle.watch.specs.declared.step.Step.{Step}
 use Rattle.watch.specs.declared.kind.Kind.TheVariants.{Starting, Ongoing}
 
 pub power_few : (n : ℕ) → n < most_events → digits ^ n ≤ 81
@@ -89,3 +91,29 @@ kinds_back ks (a ∷ (b ∷ [])) long same = absurd (omega arith)
 kinds_back ks (a ∷ (b ∷ (c ∷ []))) long same = absurd (omega arith)
 kinds_back ks (a ∷ (b ∷ (c ∷ (d ∷ [])))) long same = absurd (omega arith)
 kinds_back ks (a ∷ (b ∷ (c ∷ (d ∷ (e ∷ (f ∷ js)))))) long same = absurd (omega arith)
+
+pub digit_at : (kinds : List (Option Kind)) (e : ℕ) → get_or (map digit_of kinds) e 0 ≡ digit_of (get_or kinds e None)
+digit_at kinds e = get_or-map digit_of kinds e None
+
+pub digit_of_none : (k : Option Kind) → digit_of k ≡ 0 → k ≡ None
+digit_of_none k none = kind_of_digit k None none
+
+-- A letter over g events has no digits from event g on.
+no_digit : (letter g e : ℕ) → letter < letter_count g → g ≤ e → digit letter e ≡ 0
+no_digit letter g e small past =
+    let more : digits ^ g ≤ digits ^ e = pow-le-pow_right {n = digits} (omega arith) past in
+    let lt : letter < digits ^ e = omega arith in
+    ap (λ (n : ℕ). n % digits) (div-eq_of_lt lt)
+
+no_digits : (letter g e : ℕ) → letter < letter_count g → g ≤ e → get_or (digits_of letter) e 0 ≡ 0
+no_digits letter g zero small past = no_digit letter g 0 small past
+no_digits letter g (suc zero) small past = no_digit letter g 1 small past
+no_digits letter g (suc (suc zero)) small past = no_digit letter g 2 small past
+no_digits letter g (suc (suc (suc zero))) small past = no_digit letter g 3 small past
+no_digits letter g (suc (suc (suc (suc zero)))) small past = no_digit letter g 4 small past
+no_digits letter g (suc (suc (suc (suc (suc e))))) small past = refl
+
+-- In the step of a letter over g events no event does anything but the first g.
+pub within_letter : (letter g : ℕ) (step : Step) → step_digits step ≡ digits_of letter → letter < letter_count g → (e : ℕ) → g ≤ e → slice_index_or step.kinds e None ≡ None
+within_letter letter g step same small e past =
+    digit_of_none _ (sym (digit_at step.kinds e) ∙ (ap (λ (ds : List ℕ). get_or ds e 0) same ∙ no_digits letter g e small past))

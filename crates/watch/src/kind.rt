@@ -1,5 +1,6 @@
 // What an event that is not absent does in a step.
-ghost use Rattle.watch.specs.Kinds.{Numbered};
+ghost use Rattle.std.specs.Prelude.{◌≡◌};
+ghost use Rattle.watch.specs.Kinds.{Numbered, kind_number};
 
 use std::error::Error;
 use std::fmt;
@@ -26,6 +27,14 @@ impl TryFrom<u8> for Kind {
             2 => Ok(Kind::Ongoing),
             _ => Err(UnknownKind(number)),
         }
+    }
+}
+
+impl From<Kind> for u8 {
+    ghost from_gives = { λ kind number. number ≡ kind_number kind };
+
+    fn from(kind: Kind) -> u8 {
+        kind as u8
     }
 }
 

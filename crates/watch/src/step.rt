@@ -11,6 +11,12 @@ use std::array;
 // How many events a step has room for.
 pub const PLACES: usize = MOST_EVENTS as usize;
 
+// What an event's digit counts for in a letter.
+const WEIGHTS: [u16; PLACES] = [1, 3, 9, 27, 81];
+
+// What an event with each digit does. A table, since a `match` on what nobody can foresee costs a third of a closing's time.
+const KINDS: [Option<Kind>; DIGITS as usize] = [None, Some(Kind::Starting), Some(Kind::Ongoing)];
+
 // What each event does; an event without a kind is absent.
 #[derive(Clone, Copy, PartialEq, Eq, Debug)]
 pub struct Step {
@@ -29,11 +35,7 @@ fn kind_at(letter: u16, event: usize) -> Option<Kind>
     requires { event < most_events }
     ensures { digit_of result ≡ digit letter event }
 {
-    match letter / DIGITS.pow(event as u32) % DIGITS {
-        1 => Some(Kind::Starting),
-        2 => Some(Kind::Ongoing),
-        _ => None,
-    }
+    KINDS[usize::from(letter / WEIGHTS[event] % DIGITS)]
 }
 
 // What each event does in a step with this letter.

@@ -7,65 +7,53 @@
 mod terms;
 
 use anyhow::anyhow;
-use monitor::Monitor;
 use sheet::{Sheet, verdict};
 use terms::worked_sheet;
-use watch::{DIGITS, MarkSet, Watcher};
-
-const EVENTS: usize = 3;
+use watch::{Kind, MarkSet, Step, Watcher};
 
 const HOURS: usize = 4;
 
-// What `play` of m, `play` of n and `pay` do in each hour: 0 for nothing, 1 for starting, 2 for ongoing.
-const EVENING: [[u8; EVENTS]; HOURS] = [[1, 0, 0], [1, 0, 1], [2, 0, 0], [0, 1, 0]];
+// An hour by what `play` of m, `play` of n and `pay` do in it.
+fn hour(m: Option<Kind>, n: Option<Kind>, pay: Option<Kind>) -> Step {
+    Step {
+        kinds: [m, n, pay, None, None],
+    }
+}
 
-// The letter of an hour.
-fn letter_of(hour: [u8; EVENTS]) -> u16 {
-    let [a, b, c] = hour;
-    let last = u16::from(c).wrapping_mul(DIGITS);
-    let rest = last.wrapping_add(u16::from(b)).wrapping_mul(DIGITS);
-    rest.wrapping_add(u16::from(a))
+fn evening() -> [Step; HOURS] {
+    let starting = Some(Kind::Starting);
+    [
+        hour(starting, None, None),
+        hour(starting, None, starting),
+        hour(Some(Kind::Ongoing), None, None),
+        hour(None, starting, None),
+    ]
 }
 
 // The marks that the sheet shows after each hour.
-fn marks_of(sheet: &Sheet) -> [MarkSet; HOURS] {
+fn marks_of(sheet: &Sheet, evening: [Step; HOURS]) -> [MarkSet; HOURS] {
     let mut state = sheet.start();
-    let mut marks = [MarkSet::EMPTY; HOURS];
-    for (hour, digits) in EVENING.iter().enumerate() {
-        state = sheet.next(state, letter_of(*digits));
-        marks[hour] = sheet.shown(state);
-    }
-    marks
-}
-
-// Notes what happened in an hour, and closes it.
-fn close_hour(monitor: &mut Monitor<Sheet>, hour: [u8; EVENTS]) -> anyhow::Result<()> {
-    for (event, kind) in hour.iter().enumerate() {
-        if *kind != 0 && monitor.note(event as u8, *kind).is_err() {
-            return Err(anyhow!("a note was refused"));
-        }
-    }
-    if monitor.close().is_err() {
-        return Err(anyhow!("a closing was refused"));
-    }
-    Ok(())
+    evening.map(|step| {
+        state = sheet.next(state, step.letter());
+        sheet.shown(state)
+    })
 }
 
 fn run(rt: &HostRuntime) -> anyhow::Result<()> {
     let heap = rt.alloc();
     let sheet = worked_sheet(heap)?;
-    let marks = marks_of(&sheet);
+    let evening = evening();
+    let marks = marks_of(&sheet, evening);
     let mut monitor = sheet.open();
-    let (word, _) = verdict(&monitor);
-    println!(rt; "new {word}")?;
-    for (hour, digits) in EVENING.iter().enumerate() {
-        close_hour(&mut monitor, *digits)?;
-        let (word, _) = verdict(&monitor);
-        let shown = marks[hour].text(heap)?;
-        println!(rt; "step {hour}: {word}, marks {shown}")?;
+    println!(rt; "new {}", verdict(&monitor).0)?;
+    for (hour, (step, shown)) in evening.iter().zip(marks.iter()).enumerate() {
+        if monitor.close_with(*step).is_err() {
+            return Err(anyhow!("a note or a closing was refused"));
+        }
+        let shown = shown.text(heap)?;
+        println!(rt; "step {hour}: {}, marks {shown}", verdict(&monitor).0)?;
     }
-    let (_, closed) = verdict(&monitor);
-    println!(rt; "closed {closed}")?;
+    println!(rt; "closed {}", verdict(&monitor).1)?;
     Ok(())
 }
 

@@ -27,7 +27,8 @@ loop-step-preserved g c h =
     let v = c.verdict-word.result in
     let lt : i < length letters = omega arith in
     let pushed = c.in_ok-push_str-2.ensures.bytes ∙ ap (λ (l : List ℕ). text ++ l) c.as_str-in-loop-step.ensures.value in
-    walks_more g.W.Watcher.watching c.open-monitor.result letters i c.loop-step.monitor text c.loop-step.before (c.loop-step.invariant h) lt (h i lt) c.close_with.new.monitor (Ok c.in_default.field-0) c.in_default.ensures.closes refl c.close_with.ensures.same v.0 v.1 c.verdict-word.ensures line _ c.in_ok-line.ensures pushed
+    walks_more g.W.Watcher.watching c.open-monitor.result letters i c.loop-step.monitor text c.loop-step.before (c.loop-step.invariant h) lt (h i lt) c.close_with.new.self (Ok c.in_default.field-0)
+    (g.met.W.Watcher.lawful c.open-monitor.result.watcher).few_events c.of.result c.of.ensures.digits c.of.ensures.spells c.in_default.ensures.closes refl c.close_with.ensures.same v.0 v.1 c.verdict-word.ensures line _ c.in_ok-line.ensures pushed
 
 pub returns-in-Err : goal.returns-in-Err
 returns-in-Err g c h =
@@ -44,7 +45,8 @@ returns-in-Err g c h =
     let is = c.in_ok-last.ensures ∙ ap (λ (n : ℕ). refused_line n (i + 1)) c.number.ensures in
     let pushed = c.in_ok-push_str.ensures.bytes ∙ ap (λ (l : List ℕ). text ++ l) c.as_str.ensures.value in
     subst₂ (λ x e. RightText (watch x) (formula e) letters (string_bytes c.push_str.new.self)) o.watcher o.expression
-    (walks_refused watch m letters i c.loop-step.monitor text c.loop-step.before (c.loop-step.invariant small) lt (small i lt) c.close_with.new.monitor (Err c.in-Err.refusal) c.in-Err.ensures.closes c.in-Err.refusal refl line _ is pushed)
+    (walks_refused watch m letters i c.loop-step.monitor text c.loop-step.before (c.loop-step.invariant small) lt (small i lt) c.close_with.new.self (Err c.in-Err.refusal)
+    (g.met.W.Watcher.lawful m.watcher).few_events c.of.result c.of.ensures.digits c.of.ensures.spells c.in-Err.ensures.closes c.in-Err.refusal refl line _ is pushed)
 
 pub returns : goal.returns
 returns g c h =

@@ -1,7 +1,6 @@
-use Rattle.std.proofs.Common.{◌≡◌, List, Option, ap, ◌∙◌}
+use Rattle.std.proofs.Common.{List, Option, ap, ◌∙◌}
 use Rattle.watch.specs.Steps.{digits_of}
 use Rattle.watch.specs.declared.kind.Kind.{Kind}
-use Rattle.watch.specs.declared.step.Step.{Step}
 use Rattle.watch.proofs.Spelling.{kinds_back}
 use Rattle.watch.proofs.step.Step.of.Goals as goal
 
