@@ -2,6 +2,7 @@
 ghost use Rattle.std.specs.Prelude.{◌≡◌, Some};
 ghost use Rattle.expression.specs.Faults.{fault_number, fault_text};
 
+use std::error::Error;
 use std::fmt;
 
 #[derive(Clone, Copy, PartialEq, Eq, Debug)]
@@ -31,3 +32,5 @@ impl fmt::Display for Fault {
         }
     }
 }
+
+impl Error for Fault {}
