@@ -5,7 +5,7 @@
 ghost use Rattle.std.specs.Prelude.{◌≡◌, ◌≢◌, ◌<◌, true, false};
 ghost use Rattle.watch.specs.Letters.{letter_count};
 ghost use Rattle.outlook.specs.Outlooks.{at, Foresees};
-ghost use Rattle.outlook.specs.inner.Memories.{standing, cursor};
+ghost use Rattle.outlook.specs.inner.Changes.{standing, cursor};
 ghost use Rattle.outlook.specs.declared.search.Standing.TheVariants.{New};
 ghost use Rattle.outlook.specs.inner.Showing.{Goes, LookedAt, Stepped, Ran};
 

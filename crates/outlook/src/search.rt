@@ -8,7 +8,7 @@ ghost use Rattle.arrayvec.specs.ArrayVec.{array_vec_len};
 ghost use Rattle.watch.specs.Watchers.{Watching};
 ghost use Rattle.outlook.specs.inner.Tables.{item};
 ghost use Rattle.outlook.specs.inner.Showing.{Goes};
-ghost use Rattle.outlook.specs.inner.Memories.{stop, standing, cursor, after_letter, after_push, after_note, after_absorb, parent, Dismissed, Joined, Left};
+ghost use Rattle.outlook.specs.inner.Changes.{stop, standing, cursor, after_letter, after_push, after_note, after_absorb, parent, Dismissed, Joined, Left};
 
 use crate::state::State;
 use crate::tables::{MOST_STATES, share};
