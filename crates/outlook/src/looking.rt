@@ -34,8 +34,8 @@ impl<'a, W: Watcher> Drop for Guide<'a, W> {
     }
 }
 
-// Each method asks that the search goes well so far. As a fact of a struct that holds the search beside the watcher it
-// would be no plainer: it holds ways along the letters, so it would be truncated, and each method would have to
+// Four methods ask that the search goes well so far. As a fact of a struct that holds the search beside the watcher it
+// would be no plainer: it holds ways along the letters, so it would be truncated, and each of the four would have to
 // promise that the watcher stays.
 impl<'a, W: Watcher> Guide<'a, W> {
     // The state to which the letter leads.
