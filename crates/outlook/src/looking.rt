@@ -12,8 +12,7 @@ ghost use Rattle.outlook.specs.inner.Showing.{Goes, LookedAt, Stepped, Ran};
 use crate::chart::Outlook;
 use crate::search::{Search, Standing};
 use crate::state::State;
-use crate::tables::MARK_SETS;
-use watch::Watcher;
+use watch::{MARK_SETS, Watcher};
 
 // What a search goes by: the letters of a watcher, and which sets of marks are good.
 struct Guide<'a, W: Watcher> {
