@@ -5,17 +5,18 @@ ghost use Rattle.bench_monitor.specs.Computing.{computed, onward, resting};
 ghost use Rattle.bench_monitor.specs.ComputingLemmas.{computed_lawful};
 
 use crate::shape::Shape;
-use watch::{MOST_STATES, MarkSet, Sizes, Watcher};
+use watch::{MOST_EVENTS, MOST_STATES, MarkSet, Sizes, Watcher};
 
-const EVENTS: u8 = 5;
+const EVENTS: u8 = MOST_EVENTS;
 
 const LETTERS: u16 = 243;
 
-const LAST_LETTER: u16 = 242;
+const LAST_LETTER: u16 = LETTERS - 1;
 
 const LEAST_STATES: u16 = 3;
 
-// A state that stays shows mark 1.
+// A state that stays shows mark 1. The shape is an enum and no closure: an argument of the program names it, and what
+// is proved of a watcher is proved shape by shape.
 #[derive(Clone, Copy)]
 pub struct Computed {
     shape: Shape,

@@ -14,6 +14,7 @@ pub enum Fault {
 }
 
 impl Fault {
+    // A trait for all enums with such a number would be longer than this line in each.
     pub fn number(self) -> u8
         ensures { result ≡ fault_number self }
     {
