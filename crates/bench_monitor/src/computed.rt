@@ -47,7 +47,7 @@ impl Computed {
     pub fn new(shape: Shape, states: u16) -> Option<Computed>
         ensures { MatchOption result ((3 ≤ states) × (states ≤ most_states) → ⊥) (λ w. (w.shape ≡ shape) × (w.states ≡ states)) }
     {
-        if states < LEAST_STATES || states > MOST_STATES {
+        if !(LEAST_STATES..=MOST_STATES).contains(&states) {
             return None;
         }
         Some(Computed { shape, states })

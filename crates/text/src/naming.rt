@@ -23,7 +23,7 @@ fn all_name_bytes(bytes: &[u8]) -> bool
 fn is_name(bytes: &[u8]) -> bool
     ensures { result ≡ name_form bytes.now }
 {
-    1 <= bytes.len() && bytes.len() <= MOST_LETTERS && all_name_bytes(bytes)
+    (1..=MOST_LETTERS).contains(&bytes.len()) && all_name_bytes(bytes)
 }
 
 impl Name {
