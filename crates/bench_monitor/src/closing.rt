@@ -1,5 +1,4 @@
 // Closing steps: the notes of each step, its closing, and the word after it.
-use anyhow::anyhow;
 use expression::Expression;
 use monitor::{Monitor, Word};
 use std::time::Instant;
@@ -34,10 +33,7 @@ pub fn time_closings<W: Watcher + Drop>(
     let begun = Instant::now(rt)?;
     for _ in 0..times {
         seed = stirred(seed);
-        let step = Step::of(((seed >> 16) % letters) as u16);
-        if monitor.close_with(step).is_err() {
-            return Err(anyhow!("a note or a closing was refused"));
-        }
+        monitor.close_with(Step::of(((seed >> 16) % letters) as u16))?;
         if let (Word::Open, _) = monitor.verdict() {
             open = open.wrapping_add(1);
         }

@@ -5,17 +5,18 @@ ghost use Rattle.bench_monitor.specs.Computing.{computed, onward, resting};
 ghost use Rattle.bench_monitor.specs.ComputingLemmas.{computed_lawful};
 
 use crate::shape::Shape;
-use watch::{MOST_STATES, MarkSet, Sizes, Watcher};
+use watch::{MOST_EVENTS, MOST_STATES, MarkSet, Sizes, Watcher};
 
-const EVENTS: u8 = 5;
+const EVENTS: u8 = MOST_EVENTS;
 
 const LETTERS: u16 = 243;
 
-const LAST_LETTER: u16 = 242;
+const LAST_LETTER: u16 = LETTERS - 1;
 
 const LEAST_STATES: u16 = 3;
 
-// A state that stays shows mark 1.
+// A state that stays shows mark 1. The shape is an enum and no closure: an argument of the program names it, and what
+// is proved of a watcher is proved shape by shape.
 #[derive(Clone, Copy)]
 pub struct Computed {
     shape: Shape,
@@ -29,8 +30,8 @@ fn mixed(state: u16, letter: u16, count: u16) -> u16
     requires some { 0 < count }
     ensures { result ≡ (state * 7 + letter * 13 + 1) % count }
 {
-    let number = state as u32 * 7 + letter as u32 * 13 + 1;
-    (number % count as u32) as u16
+    let number = u32::from(state) * 7 + u32::from(letter) * 13 + 1;
+    (number % u32::from(count)) as u16
 }
 
 // One towards the last state.
@@ -46,7 +47,7 @@ impl Computed {
     pub fn new(shape: Shape, states: u16) -> Option<Computed>
         ensures { MatchOption result ((3 ≤ states) × (states ≤ most_states) → ⊥) (λ w. (w.shape ≡ shape) × (w.states ≡ states)) }
     {
-        if states < LEAST_STATES || states > MOST_STATES {
+        if !(LEAST_STATES..=MOST_STATES).contains(&states) {
             return None;
         }
         Some(Computed { shape, states })

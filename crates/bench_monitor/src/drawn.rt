@@ -1,16 +1,7 @@
 // Drawn tables: a watcher, written out as the list that a distributor sends.
-use anyhow::anyhow;
 use std::alloc::{AllocError, Global};
 use table::Table;
 use watch::Watcher;
-
-// Adds where the letters lead from the state.
-fn add_row<W: Watcher>(words: &mut Vec<u16>, watcher: &W, state: u16) -> Result<(), AllocError> {
-    for letter in 0..watcher.sizes().letters {
-        words.push(watcher.next(state, letter))?;
-    }
-    Ok(())
-}
 
 // The list of a watcher.
 fn words_of<W: Watcher>(heap: Global, watcher: &W) -> Result<Vec<u16>, AllocError> {
@@ -18,11 +9,9 @@ fn words_of<W: Watcher>(heap: Global, watcher: &W) -> Result<Vec<u16>, AllocErro
     let events = u16::from(sizes.events);
     let marks = u16::from(sizes.marks);
     let mut words = vec![in heap; sizes.states, events, marks]?;
+    words.extend((0..sizes.states).map(|state| u16::from(watcher.shown(state).bits)))?;
     for state in 0..sizes.states {
-        words.push(u16::from(watcher.shown(state).bits))?;
-    }
-    for state in 0..sizes.states {
-        add_row(&mut words, watcher, state)?;
+        words.extend((0..sizes.letters).map(|letter| watcher.next(state, letter)))?;
     }
     Ok(words)
 }
@@ -30,8 +19,6 @@ fn words_of<W: Watcher>(heap: Global, watcher: &W) -> Result<Vec<u16>, AllocErro
 // The table of a watcher.
 pub fn drawn<W: Watcher>(heap: Global, watcher: &W) -> anyhow::Result<Table> {
     let mut table = Table::blank(heap);
-    match table.read(words_of(heap, watcher)?) {
-        Ok(()) => Ok(table),
-        Err(refusal) => Err(anyhow!(format!(in heap; "{refusal}")?)),
-    }
+    table.read(words_of(heap, watcher)?)?;
+    Ok(table)
 }

@@ -11,7 +11,7 @@ mod drawn;
 mod opening;
 mod shape;
 
-use anyhow::anyhow;
+use anyhow::Context;
 use case::{Case, Kind};
 use closing::time_closings;
 use computed::Computed;
@@ -24,10 +24,7 @@ use std::env;
 use table::Table;
 
 fn computed_of(shape: Shape, states: u16) -> anyhow::Result<Computed> {
-    match Computed::new(shape, states) {
-        Some(watcher) => Ok(watcher),
-        None => Err(anyhow!("no watcher has so many states")),
-    }
+    Computed::new(shape, states).context("no watcher has so many states")
 }
 
 fn drawn_of(heap: Global, shape: Shape, states: u16) -> anyhow::Result<Table> {

@@ -5,7 +5,8 @@ use Rattle.std.proofs.lemmas.Bool.{cases_Bool}
 use Rattle.std.proofs.lemmas.Bool.Decides.{Decides-not, Decides-and, Decides-or, Decides-like, not_from_Decides}
 use Rattle.watch.specs.Marks.{Has, has}
 use Rattle.watch.proofs.Bits.{has_true, has_from}
-use Rattle.expression.specs.Formulas.{Formula, term, not, and, or, implies, Either, TrueOf}
+use Rattle.watch.specs.Classical.{Either}
+use Rattle.expression.specs.Formulas.{Formula, term, not, and, or, implies, TrueOf}
 use Rattle.expression.specs.Values.{eval}
 
 -- Facts that a test decides: the classical "or" and "implies" of two such facts are the constructive ones.

@@ -1,5 +1,6 @@
 -- Formulas over numbered terms, and when they are true. Assumes nothing.
 use Rattle.std.specs.Prelude.{ℕ}
+use Rattle.watch.specs.Classical.{Either}
 
 pub data Formula : Type 0 where
   term : ℕ → Formula
@@ -7,10 +8,6 @@ pub data Formula : Type 0 where
   and : Formula → Formula → Formula
   or : Formula → Formula → Formula
   implies : Formula → Formula → Formula
-
--- One of two facts holds, in the classical sense: they do not both fail.
-abbrev pub Either : Type 0 → Type 0 → Type 0
-Either P Q = (P → ⊥) → (Q → ⊥) → ⊥
 
 -- The truth of a formula, where `holds i` says that term i holds.
 abbrev pub TrueOf : (ℕ → Type 0) → Formula → Type 0

@@ -2,6 +2,7 @@
 ghost use Rattle.std.specs.Prelude.{◌≡◌, Some};
 ghost use Rattle.expression.specs.Faults.{fault_number, fault_text};
 
+use std::error::Error;
 use std::fmt;
 
 #[derive(Clone, Copy, PartialEq, Eq, Debug)]
@@ -13,6 +14,7 @@ pub enum Fault {
 }
 
 impl Fault {
+    // A trait for all enums with such a number would be longer than this line in each.
     pub fn number(self) -> u8
         ensures { result ≡ fault_number self }
     {
@@ -31,3 +33,5 @@ impl fmt::Display for Fault {
         }
     }
 }
+
+impl Error for Fault {}

@@ -17,7 +17,7 @@ use watch::{MOST_MARKS, MOST_STATES};
 fn are_counts_lawful(events: usize, rows: usize) -> bool
     ensures { result ≡ (nat_le 1 events && nat_le events most_events && nat_le 1 rows && nat_le rows most_marks) }
 {
-    1 <= events && events <= PLACES && 1 <= rows && rows <= MOST_MARKS as usize
+    (1..=PLACES).contains(&events) && (1..=usize::from(MOST_MARKS)).contains(&rows)
 }
 
 // Whether the token is no term, or the number of a row.

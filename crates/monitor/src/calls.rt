@@ -7,7 +7,8 @@ use crate::word::Word;
 
 #[derive(Clone, Copy, PartialEq, Eq, Debug)]
 pub enum Call {
-    // Note an event with a kind: 1 for starting, 2 for ongoing.
+    // Note an event with a kind: 1 for starting, 2 for ongoing. Both are numbers, since a call may name what there is not,
+    // and is then refused.
     Note(u8, u8),
     // Close the step in progress.
     Close,
@@ -15,6 +16,7 @@ pub enum Call {
     Ask,
 }
 
+// Three outcomes, of which a word is neither success nor failure, so no `Result`.
 #[derive(Clone, Copy, PartialEq, Eq, Debug)]
 pub enum Answer {
     Accepted,

@@ -16,7 +16,8 @@ use expression::Expression;
 use outlook::{Outlook, outlook};
 use watch::Watcher;
 
-// The watcher and the expression stay as they are.
+// The watcher and the expression stay as they are. Each method promises it as `same`: a fact of the type speaks of one
+// value, and not of before and after.
 #[derive(Drop)]
 pub struct Monitor<W> {
     pub(crate) watcher: W,
@@ -42,7 +43,8 @@ impl<W: Watcher> Monitor<W> {
         }
     }
 
-    // Notes an event in the step in progress, with kind 1 for starting or 2 for ongoing.
+    // Notes an event in the step in progress, with kind 1 for starting or 2 for ongoing. It takes any number as a kind:
+    // one that is none is refused, while a parameter of the type `Kind` would ask more of the caller.
     pub fn note(&mut self, event: u8, kind: u8) -> Result<(), Refusal>
         ensures same { Same self.old self.new }
         ensures unmoved { is_ok result ≡ false → self.new ≡ self.old }

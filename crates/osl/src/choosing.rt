@@ -6,10 +6,7 @@ ghost use Rattle.osl.specs.inner.Closures.{Answers};
 
 use crate::event::Event;
 use std::array;
-use watch::MOST_EVENTS;
-
-// How many events a sheet has room for.
-pub const PLACES: usize = MOST_EVENTS as usize;
+use watch::PLACES;
 
 // A set of declared events: event i is in it where flag i is set. An array, since making a monitor and stepping it never allocate.
 #[derive(Clone, Copy)]

@@ -9,8 +9,9 @@ mod permits;
 mod published;
 mod row;
 
-pub use choosing::{EventSet, PLACES};
+pub use choosing::EventSet;
 pub use event::{Class, Event, Pair, Param, Pattern};
 pub use matched::Matched;
 pub use published::{counts_are_sizes, operators_are_as_published};
 pub use row::{Count, PermittedNames, PermittedValues, Row, Test};
+pub use watch::PLACES;

@@ -4,7 +4,7 @@ use Rattle.std.proofs.Math.Seq.{map-set_same}
 use Rattle.std.proofs.lemmas.List.{get_or-set_same, get_or-set_other}
 use Rattle.std.proofs.lemmas.Bool.{cases_eq}
 use Rattle.outlook.specs.inner.Tables.{state_at}
-use Rattle.outlook.specs.inner.Memories.{free, seat_at, Dismissed}
+use Rattle.outlook.specs.inner.Changes.{free, seat_at, Dismissed}
 use Rattle.outlook.specs.declared.search.Standing.TheVariants.{Gone}
 use Rattle.outlook.specs.declared.search.Seat.{Seat}
 use Rattle.outlook.specs.declared.search.Stop.{Stop}

@@ -4,7 +4,7 @@ use Rattle.watch.specs.Letters.{letter_count}
 use Rattle.watch.specs.Watchers.{Watching, Lawful}
 use Rattle.outlook.specs.Outlooks.{at as says}
 use Rattle.outlook.specs.inner.Tables.{item}
-use Rattle.outlook.specs.inner.Memories.{stop, standing, cursor, after_letter, after_push, after_note, after_absorb, Joined}
+use Rattle.outlook.specs.inner.Changes.{stop, standing, cursor, after_letter, after_push, after_note, after_absorb, Joined}
 use Rattle.outlook.specs.inner.Showing.{Goes, LookedAt, Stepped}
 use Rattle.outlook.specs.declared.state.State.{State}
 use Rattle.outlook.specs.declared.search.Standing.{Standing}

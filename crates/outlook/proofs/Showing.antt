@@ -9,7 +9,7 @@ use Rattle.watch.specs.Letters.{letter_count}
 use Rattle.watch.specs.Watchers.{Watching}
 use Rattle.outlook.specs.Outlooks.{at}
 use Rattle.outlook.specs.inner.Tables.{item, no_stop, stop_at, state_at, In, Shared}
-use Rattle.outlook.specs.inner.Memories.{free, seat_at, stop, standing, cursor, after_letter, after_push, after_learning, after_note, after_absorb, Joined, Left, parent}
+use Rattle.outlook.specs.inner.Changes.{free, seat_at, stop, standing, cursor, after_letter, after_push, after_learning, after_note, after_absorb, Joined, Left, parent}
 use Rattle.outlook.specs.inner.Searching.{Memory, on, Held, Sized, Searching, Handed, Onward, pushed, advanced, learned, noted, absorbed, stood, left}
 use Rattle.outlook.specs.inner.Searching.{Gone as IsGone}
 use Rattle.outlook.specs.inner.Showing.{upto, cursors, Shows, todo, Stepped}

@@ -6,7 +6,7 @@ use Rattle.watch.specs.Watchers.{Watching, Lawful}
 use Rattle.outlook.specs.Outlooks.{at, Foresees}
 use Rattle.outlook.specs.inner.Ways.{value}
 use Rattle.outlook.specs.inner.Tables.{item}
-use Rattle.outlook.specs.inner.Memories.{stop, standing, cursor, after_letter, after_push, after_note, after_absorb, Joined, Left}
+use Rattle.outlook.specs.inner.Changes.{stop, standing, cursor, after_letter, after_push, after_note, after_absorb, Joined, Left}
 use Rattle.outlook.specs.inner.Searching.{Memory, on, bound, Held, Spent, Sized, Searching, Onward, pushed, advanced, noted, absorbed, stood}
 use Rattle.outlook.specs.inner.Searching.{Gone as IsGone}
 use Rattle.outlook.specs.inner.Showing.{upto, Shows, Goes, Stepped}

@@ -1,5 +1,5 @@
 pub mod Ways
 pub mod Tables
-pub mod Memories
+pub mod Changes
 pub mod Searching
 pub mod Showing

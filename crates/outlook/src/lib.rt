@@ -10,4 +10,5 @@ mod tables;
 
 pub use chart::Outlook;
 pub use looking::outlook;
-pub use tables::{MARK_SETS, MOST_STATES};
+pub use tables::MOST_STATES;
+pub use watch::MARK_SETS;

@@ -5,15 +5,14 @@
 ghost use Rattle.std.specs.Prelude.{◌≡◌, ◌≢◌, ◌<◌, true, false};
 ghost use Rattle.watch.specs.Letters.{letter_count};
 ghost use Rattle.outlook.specs.Outlooks.{at, Foresees};
-ghost use Rattle.outlook.specs.inner.Memories.{standing, cursor};
+ghost use Rattle.outlook.specs.inner.Changes.{standing, cursor};
 ghost use Rattle.outlook.specs.declared.search.Standing.TheVariants.{New};
 ghost use Rattle.outlook.specs.inner.Showing.{Goes, LookedAt, Stepped, Ran};
 
 use crate::chart::Outlook;
 use crate::search::{Search, Standing};
 use crate::state::State;
-use crate::tables::MARK_SETS;
-use watch::Watcher;
+use watch::{MARK_SETS, Watcher};
 
 // What a search goes by: the letters of a watcher, and which sets of marks are good.
 struct Guide<'a, W: Watcher> {
@@ -34,8 +33,8 @@ impl<'a, W: Watcher> Drop for Guide<'a, W> {
     }
 }
 
-// Each method asks that the search goes well so far. As a fact of a struct that holds the search beside the watcher it
-// would be no plainer: it holds ways along the letters, so it would be truncated, and each method would have to
+// Four methods ask that the search goes well so far. As a fact of a struct that holds the search beside the watcher it
+// would be no plainer: it holds ways along the letters, so it would be truncated, and each of the four would have to
 // promise that the watcher stays.
 impl<'a, W: Watcher> Guide<'a, W> {
     // The state to which the letter leads.

@@ -8,7 +8,7 @@ ghost use Rattle.arrayvec.specs.ArrayVec.{array_vec_len};
 ghost use Rattle.watch.specs.Watchers.{Watching};
 ghost use Rattle.outlook.specs.inner.Tables.{item};
 ghost use Rattle.outlook.specs.inner.Showing.{Goes};
-ghost use Rattle.outlook.specs.inner.Memories.{stop, standing, cursor, after_letter, after_push, after_note, after_absorb, parent, Dismissed, Joined, Left};
+ghost use Rattle.outlook.specs.inner.Changes.{stop, standing, cursor, after_letter, after_push, after_note, after_absorb, parent, Dismissed, Joined, Left};
 
 use crate::state::State;
 use crate::tables::{MOST_STATES, share};
@@ -48,7 +48,8 @@ pub(crate) struct Stop {
 
 #[derive(Drop)]
 pub(crate) struct Search {
-    // The states that are known to come to rest at marks that are good, and at marks that are not.
+    // The states that are known to come to rest at marks that are good, and at marks that are not. They are tables of
+    // their own, and not part of a seat, since an outlook hands them out as such.
     pub(crate) keepable: [bool; MOST_STATES],
     pub(crate) breakable: [bool; MOST_STATES],
     pub(crate) seats: [Seat; MOST_STATES],
@@ -131,6 +132,7 @@ impl Search {
         requires few { array_vec_len self.old.bounds < 16384 }
         ensures { self.new ≡ after_push self.old state }
     {
+        // There is room, so the length is a place.
         let end = self.path.len() as u16;
         self.seats[usize::from(state.number)].standing = Standing::At(end);
         self.path.push(Stop {

@@ -7,6 +7,7 @@ pub(crate) struct State {
     ghost within: { number < 16384 },
 }
 
+// For the unused places of a path. A struct with a ghost field derives no default.
 impl Default for State {
     fn default() -> State {
         State { number: 0 }

@@ -10,9 +10,6 @@ use crate::state::State;
 // The most states that a watcher can have. A table has a place for each.
 pub const MOST_STATES: usize = watch::MOST_STATES as usize;
 
-// How many sets of marks there are.
-pub const MARK_SETS: usize = 256;
-
 // Whether one of the states is in the table.
 fn any(table: &[bool; MOST_STATES], group: &[Stop]) -> bool
     ensures { result ≡ list_any (λ s. at table.now s.state.number) group.now }

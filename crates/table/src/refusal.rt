@@ -14,6 +14,7 @@ pub enum Refusal {
 }
 
 impl Refusal {
+    // A trait for all enums with such a number would be longer than this line in each.
     pub fn number(self) -> u8
         ensures { result ≡ refusal_number self }
     {

@@ -14,7 +14,7 @@ fn all_visible(word: &[u8]) -> bool
 fn is_clean_word(word: &[u8]) -> bool
     ensures { result ≡ clean_word word.now }
 {
-    word.len() != 0 && all_visible(word)
+    !word.is_empty() && all_visible(word)
 }
 
 // Whether the line is not empty, and has single spaces between words of visible bytes.

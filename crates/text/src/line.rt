@@ -6,7 +6,7 @@ ghost use Rattle.text.specs.Words.{words, words_left, joined};
 // What is left of a line to read. No word at all is left behind the last word, while behind a last space
 // an empty word is left. The library's `split` gives the same words, but it cannot be named here, since its
 // type names that of its closure.
-#[derive(Clone, Drop)]
+#[derive(Clone, Copy)]
 pub struct Words<'a>(Option<&'a [u8]>);
 
 impl<'a> Words<'a> {

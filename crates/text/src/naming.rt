@@ -1,6 +1,5 @@
-// Making a name of a text, and comparing names.
+// Making a name of a text.
 ghost use Rattle.std.specs.Prelude.{◌≡◌, true, false, string_bytes, MatchOption};
-ghost use Rattle.std.specs.Str.{bytes_eq};
 ghost use Rattle.std.specs.List.{list_all};
 ghost use Rattle.text.specs.NameForms.{name_byte, name_form};
 ghost use Rattle.text.specs.Names.{name_bytes};
@@ -24,7 +23,7 @@ fn all_name_bytes(bytes: &[u8]) -> bool
 fn is_name(bytes: &[u8]) -> bool
     ensures { result ≡ name_form bytes.now }
 {
-    1 <= bytes.len() && bytes.len() <= MOST_LETTERS && all_name_bytes(bytes)
+    (1..=MOST_LETTERS).contains(&bytes.len()) && all_name_bytes(bytes)
 }
 
 impl Name {
@@ -43,11 +42,5 @@ impl Name {
         ensures { result.now ≡ name_bytes self.now }
     {
         self.text.as_str()
-    }
-
-    pub fn is(&self, other: &Name) -> bool
-        ensures { result ≡ bytes_eq (name_bytes self.now) (name_bytes other.now) }
-    {
-        self == other
     }
 }

@@ -26,8 +26,7 @@ fn all_digits(word: &[u8]) -> bool
 fn is_number(word: &[u8]) -> bool
     ensures { result ≡ number_form word.now }
 {
-    1 <= word.len()
-        && word.len() <= MOST_DIGITS
+    (1..=MOST_DIGITS).contains(&word.len())
         && all_digits(word)
         && (word.len() == 1 || word[0] != b'0')
 }

@@ -6,7 +6,6 @@
 
 mod terms;
 
-use anyhow::anyhow;
 use sheet::{Sheet, verdict};
 use terms::worked_sheet;
 use watch::{Kind, MarkSet, Step, Watcher};
@@ -47,9 +46,7 @@ fn run(rt: &HostRuntime) -> anyhow::Result<()> {
     let mut monitor = sheet.open();
     println!(rt; "new {}", verdict(&monitor).0)?;
     for (hour, (step, shown)) in evening.iter().zip(marks.iter()).enumerate() {
-        if monitor.close_with(*step).is_err() {
-            return Err(anyhow!("a note or a closing was refused"));
-        }
+        monitor.close_with(*step)?;
         println!(rt; "step {hour}: {}, marks {shown}", verdict(&monitor).0)?;
     }
     println!(rt; "closed {}", verdict(&monitor).1)?;

@@ -1,5 +1,5 @@
 // The terms of the worked case.
-use anyhow::anyhow;
+use anyhow::Context;
 use expression::Expression;
 use osl::{Class, Count, Event, Param, Pattern, Row, Test};
 use sheet::Sheet;
@@ -7,10 +7,7 @@ use std::alloc::Global;
 use text::Name;
 
 fn name(heap: Global, text: &str) -> anyhow::Result<Name> {
-    match Name::new(String::from_str(heap, text)?) {
-        Some(name) => Ok(name),
-        None => Err(anyhow!("this is no name")),
-    }
+    Name::new(String::from_str(heap, text)?).context("this is no name")
 }
 
 // The parameter `object` with this value, alone.
@@ -71,14 +68,6 @@ pub fn worked_sheet(heap: Global) -> anyhow::Result<Sheet> {
     ))?;
     rows.push(Row::Within(3, Test::First(any_pay(heap)?)))?;
     let mut keep = Expression::blank();
-    if keep.read(b"and 1 2").is_err() {
-        return Err(anyhow!("this is no expression"));
-    }
-    match Sheet::new(events, rows, keep) {
-        Ok(sheet) => Ok(sheet),
-        Err(refusal) => {
-            let number = refusal.number();
-            Err(anyhow!(format!(in heap; "refused {number}")?))
-        }
-    }
+    keep.read(b"and 1 2")?;
+    Ok(Sheet::new(events, rows, keep)?)
 }

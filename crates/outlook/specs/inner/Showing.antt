@@ -6,7 +6,7 @@ use Rattle.outlook.specs.Outlooks.{at}
 use Rattle.outlook.specs.inner.Tables.{item}
 use Rattle.outlook.specs.inner.Searching.{Memory, Held, on, Searching}
 use Rattle.outlook.specs.inner.Searching.{Gone as IsGone}
-use Rattle.outlook.specs.inner.Memories.{stop, standing}
+use Rattle.outlook.specs.inner.Changes.{stop, standing}
 use Rattle.outlook.specs.declared.state.State.{State}
 use Rattle.outlook.specs.declared.search.Standing.TheVariants.{New, At, Gone}
 use Rattle.outlook.specs.declared.search.Seat.{Seat}

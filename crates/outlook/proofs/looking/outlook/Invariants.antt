@@ -1,5 +1,5 @@
 use Rattle.std.proofs.Common.{◌≡◌, ◌≢◌, ℕ, ◌<◌, None}
-use Rattle.outlook.specs.inner.Memories.{standing}
+use Rattle.outlook.specs.inner.Changes.{standing}
 use Rattle.outlook.specs.inner.Showing.{Goes}
 use Rattle.outlook.specs.declared.search.Standing.TheVariants.{New}
 use Rattle.outlook.proofs.looking.outlook.Given as goal

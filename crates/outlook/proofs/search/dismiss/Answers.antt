@@ -1,6 +1,6 @@
 use Rattle.std.proofs.Common.{ℕ, ◌+◌, set, sym, ◌∙◌, subst, arith}
 use Rattle.outlook.specs.inner.Tables.{stop_at}
-use Rattle.outlook.specs.inner.Memories.{seat_at, Dismissed}
+use Rattle.outlook.specs.inner.Changes.{seat_at, Dismissed}
 use Rattle.outlook.specs.declared.search.Standing.TheVariants.{Gone}
 use Rattle.outlook.proofs.Dismissing.{dismissed_more}
 use Rattle.outlook.proofs.Sharing.{stop_read}

@@ -1,4 +1,4 @@
-use Rattle.outlook.specs.inner.Memories.{Dismissed}
+use Rattle.outlook.specs.inner.Changes.{Dismissed}
 use Rattle.outlook.proofs.search.dismiss.Given as goal
 
 abbrev pub invariant-loop-stop : goal.invariant-loop-stop

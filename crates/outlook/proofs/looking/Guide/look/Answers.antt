@@ -1,6 +1,6 @@
 use Rattle.std.proofs.Common.{◌<◌, ◌∙◌, arith}
 use Rattle.watch.specs.Letters.{letter_count}
-use Rattle.outlook.specs.inner.Memories.{cursor}
+use Rattle.outlook.specs.inner.Changes.{cursor}
 use Rattle.outlook.proofs.Beginning.{few_letters}
 use Rattle.outlook.proofs.Following.{look_room, look_new, look_gone, look_back}
 use Rattle.outlook.proofs.looking.Guide.look.Goals as goal

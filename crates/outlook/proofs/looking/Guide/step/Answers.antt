@@ -1,6 +1,6 @@
 use Rattle.std.proofs.Common.{◌≤◌, sym, ap, subst, arith}
 use Rattle.watch.specs.Letters.{letter_count}
-use Rattle.outlook.specs.inner.Memories.{stop, cursor}
+use Rattle.outlook.specs.inner.Changes.{stop, cursor}
 use Rattle.outlook.specs.inner.Showing.{Stepped}
 use Rattle.outlook.specs.declared.search.Stop.{Stop}
 use Rattle.outlook.proofs.Steps.{some_bound, leave_step, back_step}

@@ -1,5 +1,5 @@
 use Rattle.std.proofs.Common.{length}
-use Rattle.outlook.specs.inner.Memories.{Joined}
+use Rattle.outlook.specs.inner.Changes.{Joined}
 use Rattle.outlook.proofs.search.Search.join.Given as goal
 
 abbrev pub invariant-loop-place : goal.invariant-loop-place

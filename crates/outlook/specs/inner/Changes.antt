@@ -1,4 +1,4 @@
--- What the steps of a search do to its memory. Assumes nothing.
+-- What the steps of a search change in its memory. Assumes nothing.
 use Rattle.std.specs.Prelude.{◌≡◌, ℕ, ◌+◌, ◌-◌, ◌<◌, ◌≤◌, Bool, true, cond, ◌||◌, ◌⊎◌, List, [], ◌∷◌, ◌++◌, length, map, take, drop, slice_index_or, slice_set, Option, Some}
 use Rattle.std.specs.Option.{option_map}
 use Rattle.outlook.specs.Outlooks.{at}
