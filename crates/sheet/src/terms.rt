@@ -44,6 +44,7 @@ impl<'a> Terms<'a> {
     ) -> Result<Terms<'a>, Refusal>
         ensures { MatchResult result (λ t. (judged events.now rows.now (formula keep.now) ≡ None) × (t.events.now ≡ events.now) × (t.rows.now ≡ rows.now)) (λ refusal. judged events.now rows.now (formula keep.now) ≡ Some refusal) }
     {
+        // What `judge` finds is the error here, so neither `ok_or` nor `?` fits.
         match judge(events, rows, keep) {
             None => Ok(Terms { events, rows }),
             Some(refusal) => Err(refusal),
@@ -54,6 +55,7 @@ impl<'a> Terms<'a> {
     pub(crate) fn sizes(self) -> Sizes
         ensures { result ≡ sizes_of (watched self.entry.events.now self.entry.rows.now) }
     {
+        // The limits say that both lengths fit, so there is no failure that `try_from` could tell of.
         let events = self.events.len() as u8;
         let (Some(states), Some(letters)) = (state_count(self.rows), letter_count(events)) else {
             unreachable!()
@@ -95,6 +97,7 @@ impl<'a> Terms<'a> {
             rest /= count;
             weight *= count;
         }
+        // The rows have few states together, so the sum fits.
         sum as u16
     }
 
@@ -111,6 +114,7 @@ impl<'a> Terms<'a> {
             rest /= count;
             bit *= 2;
         }
+        // There are few rows, so the sum fits.
         MarkSet { bits: sum as u8 }
     }
 }
