@@ -24,12 +24,10 @@ where
     requires up_to { UpTo (I.remaining parts) (2 ^ 64 - 1) }
     requires tells { F.IsAlwaysCallable fault }
 {
-    let mut numbers = Vec::new(heap);
-    for (place, part) in parts.enumerate() {
-        let number = number(part).ok_or_else(|| fault(place.saturating_add(1)))?;
-        numbers.push(number)?;
-    }
-    Ok(numbers)
+    parts
+        .enumerate()
+        .map(|(place, part)| number(part).ok_or_else(|| fault(place.saturating_add(1))))
+        .try_collect(heap)
 }
 
 // The words of a drawn table.

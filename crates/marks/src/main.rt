@@ -11,7 +11,7 @@ mod input;
 mod record;
 mod words;
 
-use anyhow::{Context, anyhow};
+use anyhow::{Context, bail};
 use evening::whole_text;
 use expression::Expression;
 use input::{letters_of, words_of};
@@ -24,6 +24,11 @@ fn text_in(rt: &HostRuntime, name: &str) -> anyhow::Result<String> {
     fs::read_to_string(rt, name).context(format_args!("{name} cannot be read as text"))
 }
 
+// What stands on standard input.
+fn evening_in(rt: &HostRuntime) -> anyhow::Result<String> {
+    io::read_to_string(rt.alloc(), rt.stdin()).context("standard input cannot be read as text")
+}
+
 // The expression over the table's terms, if there is one.
 fn expression_in(rt: &HostRuntime, name: &str) -> anyhow::Result<Option<Expression>> {
     if !fs::exists(rt, name)? {
@@ -31,10 +36,9 @@ fn expression_in(rt: &HostRuntime, name: &str) -> anyhow::Result<Option<Expressi
     }
     let text = text_in(rt, name)?;
     let mut expression = Expression::blank();
-    expression.read(text.as_bytes()).map_err(|fault| anyhow!(
-        "{name}: refused {}: {fault}",
-        fault.number()
-    ))?;
+    if let Err(fault) = expression.read(text.as_bytes()) {
+        bail!("{name}: refused {}: {fault}", fault.number());
+    }
     Ok(Some(expression))
 }
 
@@ -42,9 +46,7 @@ fn run(rt: &HostRuntime) -> anyhow::Result<()> {
     let heap = rt.alloc();
     let drawn = text_in(rt, "table.txt")?;
     let expression = expression_in(rt, "keep.txt")?;
-    let evening = io::read_to_string(heap, rt.stdin()).context(
-        "standard input cannot be read as text",
-    )?;
+    let evening = evening_in(rt)?;
     let words = words_of(heap, drawn.as_str())?;
     let letters = letters_of(heap, evening.as_str())?;
     let mut table = Table::blank(heap);

@@ -57,25 +57,7 @@ fn text_of(heap: Global, stands: &[Passed], appeared: MarkSet) -> Result<String,
     Ok(text)
 }
 
-// Follows the watcher, with room for each step, and writes the text.
-fn followed<W: Watcher>(
-    heap: Global,
-    watcher: &W,
-    letters: &[u16],
-    stands: &mut [Passed],
-) -> Result<String, Fault>
-    requires { length stands.old ≡ length letters.now }
-    ensures { Records (W.watching watcher.now) letters.now result }
-{
-    let count = watcher.sizes().letters;
-    let appeared = follow(watcher, letters, stands).map_err(|place| Fault::Letter {
-        place,
-        count,
-    })?;
-    Ok(text_of(heap, stands, appeared)?)
-}
-
-// The record of the evening.
+// The record of the evening. A stray letter is looked for first, since want of memory is said only where there is none.
 pub fn record<W: Watcher>(heap: Global, watcher: &W, letters: &[u16]) -> Result<String, Fault>
     ensures { Records (W.watching watcher.now) letters.now result }
 {
@@ -87,6 +69,9 @@ pub fn record<W: Watcher>(heap: Global, watcher: &W, letters: &[u16]) -> Result<
         state: 0,
         shown: MarkSet::EMPTY,
     };
-    let mut stands = vec![in heap; blank; letters.len()]?;
-    followed(heap, watcher, letters, stands.as_mut_slice())
+    let mut room = vec![in heap; blank; letters.len()]?;
+    let stands = room.as_mut_slice();
+    let followed = follow(watcher, letters, stands);
+    let appeared = followed.map_err(|place| Fault::Letter { place, count })?;
+    Ok(text_of(heap, stands, appeared)?)
 }

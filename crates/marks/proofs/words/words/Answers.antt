@@ -1,4 +1,4 @@
-use Rattle.std.proofs.Common.{◌≡◌, ℕ, ◌+◌, ◌<◌, List, ◌++◌, length, Ok, Err, string_bytes, sym, refl, ap, ◌∙◌, subst, subst₂, arith}
+use Rattle.std.proofs.Common.{◌≡◌, ℕ, ◌+◌, ◌<◌, List, ◌++◌, length, Ok, Err, string_bytes, sym, refl, subst, subst₂, arith}
 use Rattle.watch.specs.Following.{Within}
 use Rattle.watch.specs.Letters.{letter_count}
 use Rattle.expression.specs.Expressions.{formula}
@@ -39,7 +39,7 @@ returns-in-Err g c h =
     let lt : i < length letters = omega arith in
     let small : Within (letter_count (watch m.watcher).events) letters (length letters) =
     subst (λ x. Within (letter_count (watch x).events) letters (length letters)) (sym o.watcher) h in
-    let pushed = c.in_ok-writeln.ensures.bytes ∙ ap (λ (n : ℕ). text ++ refused_line n (i + 1)) c.number.ensures in
+    let pushed = subst (λ (n : ℕ). string_bytes c.writeln.new.self ≡ text ++ refused_line n (i + 1)) c.number.ensures c.in_ok-writeln.ensures.bytes in
     subst₂ (λ x e. RightText (watch x) (formula e) letters (string_bytes c.writeln.new.self)) o.watcher o.expression
     (walks_refused watch m letters i c.loop-step.monitor text c.loop-step.before (c.loop-step.invariant small) lt (small i lt) c.close_with.new.self (Err c.in-Err.refusal)
     (g.met.W.Watcher.lawful m.watcher).few_events c.of.result c.of.ensures.digits c.of.ensures.spells c.in-Err.ensures.closes c.in-Err.refusal refl _ pushed)
