@@ -1,5 +1,6 @@
 -- The lines of a list of entries are those of a run that the list follows. Assumes nothing.
-use Rattle.std.proofs.Common.{◌≡◌, ℕ, zero, suc, ◌+◌, ◌<◌, min, List, ◌++◌, length, get_or, sym, refl, ap, ◌∙◌, subst, add-one, arith}
+use Rattle.std.proofs.Common.{◌≡◌, ℕ, zero, suc, ◌<◌, min, List, ◌++◌, length, get_or, Ok, Err, Result, refl, ap, ◌∙◌, subst, arith}
+use Rattle.std.specs.Prelude.{MatchResult}
 use Rattle.watch.specs.Exactly.{Exactly}
 use Rattle.watch.specs.Following.{stand, AppearsBy, Followed}
 use Rattle.watch.specs.Marks.{Has}
@@ -14,10 +15,6 @@ pub same_lines : (w : Watching) (r : Run) (stands : List Passed) (n : ℕ)
 same_lines w r stands zero h = refl
 same_lines w r stands (suc n) h =
     λ i. same_lines w r stands n (λ d k lt. h d k (omega arith)) i ++ step_line n (h (record { state = 0; shown = record { bits = 0 } }) n (omega arith) i)
-
-pub one_line_more : (stands : List Passed) (n : ℕ) (text line : List ℕ) → text ≡ list_lines stands n
-    → line ≡ step_line n (get_or stands n (record { state = 0; shown = record { bits = 0 } })) → text ++ line ≡ list_lines stands (n + 1)
-one_line_more stands n text line so_far is = (λ i. so_far i ++ is i) ∙ ap (list_lines stands) (sym (add-one n))
 
 pub recorded : (w : Watching) (letters : List ℕ) (before after : List Passed) (appeared : MarkSet) (text : List ℕ)
     → length before ≡ length letters → length after ≡ length letters → Followed w letters before after appeared
@@ -39,3 +36,8 @@ all_appeared w letters before after appeared room follows r h i =
     let shown_is : appeared.bits ≡ w.shown (passed w r (length letters)) = follows.last r h ∙ ap (λ (k : ℕ). w.shown (passed w r k)) all in
     subst (λ (set : ℕ). Exactly (Has i set) (AppearsBy w r (length letters) i)) shown_is
     (subst (λ (n : ℕ). Exactly (Has i appeared.bits) (AppearsBy w r n i)) all (follows.marks r h i))
+
+-- What stands under a mapped error is the value of the result before.
+pub ok_kept : {A E : Type 0} (D : Type 0) (r : Result A E) (x : A) → MatchResult r (λ (y : A). ◌≡◌ {A = Result A D} (Ok x) (Ok y)) (λ _. ⊥) → r ≡ Ok x
+ok_kept D (Ok y) x is = cc
+ok_kept D (Err e) x never = absurd never

@@ -52,15 +52,15 @@ module _ (w : Watching) (f : Formula) (letters : List ℕ) (n : ℕ) (text : Lis
   new_one : further (suc n) ≡ new
   new_one = cond-false (leb (suc n) n) _ _ (lt-leb (suc n) n (omega arith))
 
-  told-suc : (line : List ℕ) → RightWord w f (take (suc n) letters) new → line ≡ change_line n before new → Told w f letters (suc n) (text ++ line) new
-  told-suc line right is = record {
+  told-suc : RightWord w f (take (suc n) letters) new → Told w f letters (suc n) (text ++ change_line n before new) new
+  told-suc right = record {
     word = further;
     right = λ k le.
         ⊎_elim
         (λ (lt : k < suc n). subst (RightWord w f (take k letters)) (sym (as_before k (omega arith))) (x.right k (omega arith)))
         (λ (past : suc n ≤ k). subst (λ (m : ℕ). RightWord w f (take m letters) (further m)) (let z : suc n ≡ k = omega arith in z) (subst (RightWord w f (take (suc n) letters)) (sym new_one) right))
         (cases_lt k (suc n));
-    is = (λ i. (x.is ∙ same_words x.word further n (λ k le. sym (as_before k le))) i ++ (is ∙ ap₂ (change_line n) (x.last_is ∙ sym (as_before n (omega arith))) (sym new_one)) i);
+    is = (λ i. (x.is ∙ same_words x.word further n (λ k le. sym (as_before k le))) i ++ ap₂ (change_line n) (x.last_is ∙ sym (as_before n (omega arith))) (sym new_one) i);
     last_is = sym new_one;
   }
 
@@ -133,8 +133,8 @@ module _ {W : Type 0} (watch : W → Watching) (m : Monitor W) (letters : List �
           (subst (Represents w f k) (ap (λ (z : Result (Unit {0}) Refusal). cond (is_ok z) (record { closed = take i letters ++ spelt (step_digits step) ∷ []; notes = [] }) (record { closed = take i letters; notes = kept_notes 0 step.kinds })) ok) answers.1))
 
       pub walks_more : Same n k → (new : Word) (c : ℕ) → Says (watch k.watcher) (formula k.expression) k new c
-          → (line later : List ℕ) → line ≡ change_line i before new → later ≡ text ++ line → Walks w f letters m (i + 1) k later new
-      walks_more same new c says line later is pushed =
+          → (later : List ℕ) → later ≡ text ++ change_line i before new → Walks w f letters m (i + 1) k later new
+      walks_more same new c says later pushed =
           let kept : Same m k = record { watcher = same.watcher ∙ x.same.watcher; expression = same.expression ∙ x.same.expression } in
           let right : RightWord w f (take (suc i) letters) new =
           (moved k new c kept says _ stands_more).1 in
@@ -143,17 +143,17 @@ module _ {W : Type 0} (watch : W → Watching) (m : Monitor W) (letters : List �
             same = kept;
             within = taken_room;
             stands = stands_more;
-            told = told-suc w f letters i text before x.told new line right is;
+            told = told-suc w f letters i text before x.told new right;
           })
 
     -- A letter that was refused: there is no room for it, and the text ends with the refusal.
-    pub walks_refused : (why : Refusal) → r ≡ Err why → (line later : List ℕ) → line ≡ refused_line (refusal_number why) (i + 1) → later ≡ text ++ line
+    pub walks_refused : (why : Refusal) → r ≡ Err why → (later : List ℕ) → later ≡ text ++ refused_line (refusal_number why) (i + 1)
         → RightText w f letters later
-    walks_refused why fails line later is pushed =
+    walks_refused why fails later pushed =
         let full : i ≡ most_closed = omega (arith, room, x.within) in
         let upto : min (length letters) most_closed ≡ i = omega (arith, full, lt) in
-        let last : line ≡ last_line (length letters) =
-        is ∙ (ap₂ refused_line (ap refusal_number steps) (ap (λ (j : ℕ). j + 1) full) ∙ sym (cond-false (leb (length letters) most_closed) _ _ (lt-leb _ _ (omega (arith, full, lt))))) in
+        let last : refused_line (refusal_number why) (i + 1) ≡ last_line (length letters) =
+        ap₂ refused_line (ap refusal_number steps) (ap (λ (j : ℕ). j + 1) full) ∙ sym (cond-false (leb (length letters) most_closed) _ _ (lt-leb _ _ (omega (arith, full, lt)))) in
         record {
           word = x.told.word;
           right = λ j le. x.told.right j (omega (arith, upto, le));
@@ -176,13 +176,13 @@ module _ {W : Type 0} (watch : W → Watching) (m : Monitor W) (letters : List �
   -- Every letter was taken.
   pub walks_all : (n : Monitor W) (text : List ℕ) (last : Word) → Walks w f letters m (length letters) n text last
       → (word : Word) (c : ℕ) → Says (watch n.watcher) (formula n.expression) n word c
-      → (line later : List ℕ) → line ≡ closed_line c → later ≡ text ++ line → RightText w f letters later
-  walks_all n text last x word c says line later is pushed =
+      → (later : List ℕ) → later ≡ text ++ closed_line c → RightText w f letters later
+  walks_all n text last x word c says later pushed =
       let all : min (length letters) most_closed ≡ length letters = omega (arith, x.within) in
       let count : c ≡ length letters =
       (moved n word c x.same says _ x.stands).0 ∙ length-take-le (length letters) letters (omega arith) in
-      let ends : line ≡ last_line (length letters) =
-      is ∙ (ap closed_line count ∙ sym (cond-true (leb (length letters) most_closed) _ _ (le-leb _ _ x.within))) in
+      let ends : closed_line c ≡ last_line (length letters) =
+      ap closed_line count ∙ sym (cond-true (leb (length letters) most_closed) _ _ (le-leb _ _ x.within)) in
       record {
         word = x.told.word;
         right = λ j le. x.told.right j (omega (arith, all, le));

@@ -6,12 +6,8 @@ use Rattle.expression.specs.Expressions.{formula}
 use Rattle.expression.specs.Formulas.{Formula}
 use Rattle.expression.specs.declared.expression.Expression.{Expression}
 use Rattle.marks.specs.Records.{Records}
-use Rattle.marks.specs.WordTexts.{RightText, Tells}
+use Rattle.marks.specs.WordTexts.{RightText}
 use Rattle.marks.specs.declared.record.Fault.{Fault}
-
--- The text is that before it, and then the words.
-abbrev pub Behind : Watching → Formula → List ℕ → List ℕ → List ℕ → Type 0
-Behind w f letters before text = (words : List ℕ) × Tells w f letters words × (text ≡ before ++ words)
 
 -- The text is that of the record, and then the words.
 pub record RecordAndWords (w : Watching) (f : Formula) (letters text : List ℕ) : Type 0 where

@@ -1,5 +1,5 @@
 -- The record of an evening, as it is printed. Assumes nothing.
-use Rattle.std.specs.Prelude.{◌≡◌, ℕ, zero, suc, List, [], ◌++◌, length, Some, None, Ok, Err, string_bytes, codes, decimal, Result, String, slice_index_or}
+use Rattle.std.specs.Prelude.{◌≡◌, ℕ, zero, suc, List, [], ◌++◌, ◌+◌, ◌-◌, ◌^◌, length, min, Some, None, Ok, Err, string_bytes, codes, decimal, Result, String, slice_index_or}
 use Rattle.std.specs.declared.alloc.Global.{Global}
 use Rattle.watch.specs.Exactly.{Exactly}
 use Rattle.watch.specs.Following.{Stray, AppearsBy, stand}
@@ -31,15 +31,22 @@ abbrev pub run_record : Watching → Run → ℕ → List ℕ
 run_record w r n = run_lines w r n ++ last_line (w.shown (passed w r n))
 
 -- The text is the record of every run that begins with the letters, and the marks in its last line are exactly those
--- that appeared in these steps. A letter beyond the alphabet is refused at its
--- place, and want of memory is said only where there is none.
+-- that appeared in these steps. A letter beyond the alphabet is refused at its place, with how many letters there are,
+-- and want of memory is said only where there is none.
 abbrev pub Records : Watching → List ℕ → Result (String Global) Fault → Type 0
 Records w letters (Ok text) =
     Stray (letter_count w.events) letters None
     × ((r : Run) → Continues letters r → string_bytes text ≡ run_record w r (length letters))
     × ((r : Run) → Continues letters r → (i : ℕ) → Exactly (Has i (w.shown (passed w r (length letters)))) (AppearsBy w r (length letters) i))
-Records w letters (Err (Letter place)) = Stray (letter_count w.events) letters (Some place)
+Records w letters (Err (Letter place count)) =
+    Stray (letter_count w.events) letters (Some place) × (count ≡ letter_count w.events)
 Records w letters (Err Memory) = Stray (letter_count w.events) letters None
+
+-- How a fault is said. Lines are counted from 1, as far as the numbers go.
+abbrev pub fault_text : Fault → List ℕ
+fault_text (Letter place count) =
+    codes "standard input: line " ++ (decimal (min (place + 1) (2 ^ 64 - 1)) ++ (codes " is beyond the alphabet of " ++ (decimal count ++ codes " letters")))
+fault_text Memory = codes "there is not enough memory for the text"
 
 -- The lines of the first n entries of a list.
 abbrev pub list_lines : List Passed → ℕ → List ℕ

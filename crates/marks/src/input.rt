@@ -1,5 +1,8 @@
 // The program's input as numbers.
-use anyhow::anyhow;
+ghost use Rattle.std.specs.Prelude.{◌-◌, ◌^◌};
+ghost use Rattle.std.specs.Iterator.{IsFinite, UpTo};
+
+use anyhow::{Error, anyhow};
 use std::alloc::Global;
 
 // The number that the word writes in decimal digits, if it fits 16 bits.
@@ -10,30 +13,33 @@ fn number(word: &str) -> Option<u16> {
     word.parse().ok()
 }
 
+// The numbers that the parts of a text write. Of the first part that writes none, the fault is told by its place,
+// counted from 1.
+fn numbers<'a, I, F>(heap: Global, parts: I, fault: F) -> anyhow::Result<Vec<u16>>
+where
+    I: Iterator<Item = &'a str> + Drop,
+    F: Fn(usize) -> Error,
+    requires can { I.can_next parts }
+    requires ends { IsFinite (I.remaining parts) }
+    requires up_to { UpTo (I.remaining parts) (2 ^ 64 - 1) }
+    requires tells { F.IsAlwaysCallable fault }
+{
+    parts
+        .enumerate()
+        .map(|(place, part)| number(part).ok_or_else(|| fault(place.saturating_add(1))))
+        .try_collect(heap)
+}
+
 // The words of a drawn table.
 pub fn words_of(heap: Global, text: &str) -> anyhow::Result<Vec<u16>> {
-    let mut words = Vec::new(heap);
-    for (place, word) in text.split_ascii_whitespace().enumerate() {
-        let Some(n) = number(word) else {
-            let place = place.saturating_add(1);
-            return Err(anyhow!(format!(in heap;
-                "table.txt: word {place} is no number from 0 to 65535"
-            )?));
-        };
-        words.push(n)?;
-    }
-    Ok(words)
+    numbers(heap, text.split_ascii_whitespace(), |place| {
+        anyhow!("table.txt: word {place} is no number from 0 to 65535")
+    })
 }
 
 // The letters of an evening, one to a line.
 pub fn letters_of(heap: Global, text: &str) -> anyhow::Result<Vec<u16>> {
-    let mut letters = Vec::new(heap);
-    for (place, line) in text.lines().enumerate() {
-        let Some(letter) = number(line) else {
-            let place = place.saturating_add(1);
-            return Err(anyhow!(format!(in heap; "standard input: line {place} is no letter")?));
-        };
-        letters.push(letter)?;
-    }
-    Ok(letters)
+    numbers(heap, text.lines(), |place| {
+        anyhow!("standard input: line {place} is no letter")
+    })
 }

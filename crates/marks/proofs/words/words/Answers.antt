@@ -1,4 +1,4 @@
-use Rattle.std.proofs.Common.{◌≡◌, ℕ, ◌+◌, ◌<◌, List, ◌++◌, length, Ok, Err, string_bytes, sym, refl, ap, ◌∙◌, subst, subst₂, arith}
+use Rattle.std.proofs.Common.{◌≡◌, ℕ, ◌+◌, ◌<◌, List, ◌++◌, length, Ok, Err, string_bytes, sym, refl, subst, subst₂, arith}
 use Rattle.watch.specs.Following.{Within}
 use Rattle.watch.specs.Letters.{letter_count}
 use Rattle.expression.specs.Expressions.{formula}
@@ -16,19 +16,17 @@ loop-step-init g c h =
     let v = c.verdict-new.result in
     let stands : Represents (watch m.watcher) (formula m.expression) m opened =
     subst₂ (λ x e. Represents (watch x) (formula e) m opened) (sym o.watcher) (sym o.expression) o.stands in
-    walks_none watch m c.args.letters.now (string_bytes c.in_ok-text.text) v.0 v.1 stands c.verdict-new.ensures c.in_ok-text.ensures
+    walks_none watch m c.args.letters.now (string_bytes c.in_ok-text.text) v.0 v.1 stands c.verdict-new.ensures c.in_ok-text.ensures.ok
 
 pub loop-step-preserved : goal.loop-step-preserved
 loop-step-preserved g c h =
     let i : ℕ = c.loop-step.step in
     let letters : List ℕ = c.args.letters.now in
     let text = string_bytes c.loop-step.text in
-    let line = string_bytes c.in_ok-line.line in
     let v = c.verdict-word.result in
     let lt : i < length letters = omega arith in
-    let pushed = c.in_ok-push_str-2.ensures.bytes ∙ ap (λ (l : List ℕ). text ++ l) c.as_str-in-loop-step.ensures.value in
     walks_more g.W.Watcher.watching c.open-monitor.result letters i c.loop-step.monitor text c.loop-step.before (c.loop-step.invariant h) lt (h i lt) c.close_with.new.self (Ok c.in_default.field-0)
-    (g.met.W.Watcher.lawful c.open-monitor.result.watcher).few_events c.of.result c.of.ensures.digits c.of.ensures.spells c.in_default.ensures.closes refl c.close_with.ensures.same v.0 v.1 c.verdict-word.ensures line _ c.in_ok-line.ensures pushed
+    (g.met.W.Watcher.lawful c.open-monitor.result.watcher).few_events c.of.result c.of.ensures.digits c.of.ensures.spells c.in_default.ensures.closes refl c.close_with.ensures.same v.0 v.1 c.verdict-word.ensures _ c.in_ok-write_change.ensures
 
 pub returns-in-Err : goal.returns-in-Err
 returns-in-Err g c h =
@@ -38,15 +36,13 @@ returns-in-Err g c h =
     let i : ℕ = c.loop-step.step in
     let letters : List ℕ = c.args.letters.now in
     let text = string_bytes c.loop-step.text in
-    let line = string_bytes c.in_ok-last.last in
     let lt : i < length letters = omega arith in
     let small : Within (letter_count (watch m.watcher).events) letters (length letters) =
     subst (λ x. Within (letter_count (watch x).events) letters (length letters)) (sym o.watcher) h in
-    let is = c.in_ok-last.ensures ∙ ap (λ (n : ℕ). refused_line n (i + 1)) c.number.ensures in
-    let pushed = c.in_ok-push_str.ensures.bytes ∙ ap (λ (l : List ℕ). text ++ l) c.as_str.ensures.value in
-    subst₂ (λ x e. RightText (watch x) (formula e) letters (string_bytes c.push_str.new.self)) o.watcher o.expression
+    let pushed = subst (λ (n : ℕ). string_bytes c.writeln.new.self ≡ text ++ refused_line n (i + 1)) c.number.ensures c.in_ok-writeln.ensures.bytes in
+    subst₂ (λ x e. RightText (watch x) (formula e) letters (string_bytes c.writeln.new.self)) o.watcher o.expression
     (walks_refused watch m letters i c.loop-step.monitor text c.loop-step.before (c.loop-step.invariant small) lt (small i lt) c.close_with.new.self (Err c.in-Err.refusal)
-    (g.met.W.Watcher.lawful m.watcher).few_events c.of.result c.of.ensures.digits c.of.ensures.spells c.in-Err.ensures.closes c.in-Err.refusal refl line _ is pushed)
+    (g.met.W.Watcher.lawful m.watcher).few_events c.of.result c.of.ensures.digits c.of.ensures.spells c.in-Err.ensures.closes c.in-Err.refusal refl _ pushed)
 
 pub returns : goal.returns
 returns g c h =
@@ -56,13 +52,11 @@ returns g c h =
     let n = c.loop-step.monitor in
     let letters : List ℕ = c.args.letters.now in
     let text = string_bytes c.loop-step.text in
-    let line = string_bytes c.in_ok-last-2.last in
     let v = c.verdict-closed.result in
     let end : c.loop-step.step ≡ length letters = omega arith in
     let small : Within (letter_count (watch m.watcher).events) letters (length letters) =
     subst (λ x. Within (letter_count (watch x).events) letters (length letters)) (sym o.watcher) h in
     let walks : Walks (watch m.watcher) (formula m.expression) letters m (length letters) n text c.loop-step.before =
     subst (λ (k : ℕ). Walks (watch m.watcher) (formula m.expression) letters m k n text c.loop-step.before) end (c.loop-step.invariant small) in
-    let pushed = c.in_ok-push_str-3.ensures.bytes ∙ ap (λ (l : List ℕ). text ++ l) c.as_str-2.ensures.value in
-    subst₂ (λ x e. RightText (watch x) (formula e) letters (string_bytes c.push_str-2.new.self)) o.watcher o.expression
-    (walks_all watch m letters n text c.loop-step.before walks v.0 v.1 c.verdict-closed.ensures line _ c.in_ok-last-2.ensures pushed)
+    subst₂ (λ x e. RightText (watch x) (formula e) letters (string_bytes c.writeln-2.new.self)) o.watcher o.expression
+    (walks_all watch m letters n text c.loop-step.before walks v.0 v.1 c.verdict-closed.ensures _ c.in_ok-writeln-2.ensures.bytes)
