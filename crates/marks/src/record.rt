@@ -16,7 +16,8 @@ pub enum Fault {
     Memory,
 }
 
-// The letters stand on standard input, one to a line, and lines are counted from 1.
+// The letters stand on standard input, one to a line, and lines are counted from 1. Written out: what `thiserror`
+// derives promises no text.
 impl fmt::Display for Fault {
     ghost output = { λ fault. Some (fault_text fault) };
 
