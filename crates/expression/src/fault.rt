@@ -22,7 +22,7 @@ impl Fault {
     }
 }
 
-// What is wrong with the text, without its number.
+// What is wrong with the text, without its number. Written out: what `thiserror` derives promises no text.
 impl fmt::Display for Fault {
     ghost output = { λ fault. Some (fault_text fault) };
 

@@ -101,7 +101,8 @@ impl<'a> Terms<'a> {
         sum as u16
     }
 
-    // The marks that a state shows.
+    // The marks that a state shows. It takes the state apart as `next` does, but one loop for both would need a closure for what
+    // is summed, and the bounds of either sum.
     pub(crate) fn marks(self, state: u16) -> MarkSet
         ensures { result.bits ≡ marks_at self.entry.rows.now state }
     {
