@@ -47,6 +47,7 @@ impl Computed {
     pub fn new(shape: Shape, states: u16) -> Option<Computed>
         ensures { MatchOption result ((3 ≤ states) × (states ≤ most_states) → ⊥) (λ w. (w.shape ≡ shape) × (w.states ≡ states)) }
     {
+        // Not by `then`: its closure would have to be told what was asked.
         if !(LEAST_STATES..=MOST_STATES).contains(&states) {
             return None;
         }
@@ -117,7 +118,7 @@ impl Watcher for Computed {
     fn shown(&self, state: u16) -> MarkSet {
         let stays = state < self.states && self.rests(state);
         MarkSet {
-            bits: if stays { 1 } else { 0 },
+            bits: u8::from(stays),
         }
     }
 }

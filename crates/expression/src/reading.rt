@@ -44,6 +44,7 @@ fn parse(line: &[u8]) -> Option<Expression>
     ensures { MatchOption result ((f : Formula) → Fits f → line.now ≢ writing f) (λ e. line.now ≡ writing (formula e)) }
 {
     let words = tokens_of(line)?;
+    // Not by `then`: its closure would have to be told what was asked.
     if !is_whole(words.as_slice()) {
         return None;
     }

@@ -41,7 +41,7 @@ pub fn state_count(rows: &[Row]) -> Option<u16>
             return None;
         }
     }
-    Some(product as u16)
+    u16::try_from(product).ok()
 }
 
 // The questions in their order.

@@ -70,6 +70,7 @@ impl Row {
                 first: counted.matched(events),
                 second: until.matched(events),
             },
+            // Two types of permits, so two arms.
             Row::Names(permit) => {
                 Matched::by_one(EventSet::of(events, |event| permit.forbids(event)))
             }

@@ -15,22 +15,12 @@ use crate::state::State;
 use watch::{MARK_SETS, Watcher};
 
 // What a search goes by: the letters of a watcher, and which sets of marks are good.
+#[derive(Drop)]
 struct Guide<'a, W: Watcher> {
     watcher: &'a W,
     good: &'a [bool; MARK_SETS],
     letters: u16,
     ghost all: { letters ≡ letter_count (W.watching watcher.now).events },
-}
-
-// A derive would ask it of the watcher too, which is only borrowed.
-impl<'a, W: Watcher> Drop for Guide<'a, W> {
-    fn drop(self) {
-        let Guide {
-            watcher: _,
-            good: _,
-            letters: _,
-        } = self;
-    }
 }
 
 // Four methods ask that the search goes well so far. As a fact of a struct that holds the search beside the watcher it

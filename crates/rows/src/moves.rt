@@ -1,5 +1,5 @@
 // The moves of the automata, on what the tests and the count of a row are in one step. The states below a limit count;
-// at the limit and above, the row is settled and the state stays.
+// at the limit and above, the row is settled and the state stays. A state is a number, since it is a digit of a sheet's state.
 ghost use Rattle.std.specs.Prelude.{◌≡◌, ◌≤◌};
 ghost use Rattle.rows.specs.Moves.{after_move, answer_move, during_move, most_move, until_move, within_move};
 

@@ -10,7 +10,7 @@ use crate::moves::{after_move, answer_move, during_move, most_move, until_move, 
 use osl::{Matched, Row};
 use watch::Step;
 
-// How many states the row has.
+// How many states the row has: a line for each row, as the table of rows has it.
 pub fn states(row: &Row) -> u32
     ensures { result ≡ state_count row.now }
 {
@@ -53,8 +53,7 @@ fn move_on(row: &Row, matched: &Matched, step: &Step, state: u32) -> u32
         Row::Answer(n, a, b) => {
             answer_move(*n, holds(a, first, step), holds(b, second, step), state)
         }
-        Row::Names(_) => until_move(is_absent(first, step), false, state),
-        Row::Values(_) => until_move(is_absent(first, step), false, state),
+        Row::Names(_) | Row::Values(_) => until_move(is_absent(first, step), false, state),
     }
 }
 

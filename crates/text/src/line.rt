@@ -4,8 +4,8 @@ ghost use Rattle.std.specs.Iterator.{YieldsFirstRef, item_count};
 ghost use Rattle.text.specs.Words.{words, words_left, joined};
 
 // What is left of a line to read. No word at all is left behind the last word, while behind a last space
-// an empty word is left. The library's `split` gives the same words, but it cannot be named here, since its
-// type names that of its closure.
+// an empty word is left. The library's `split` gives the same words; the `next` of a type of our own
+// promises them by `words_left`, which is what each reader of a line cites.
 #[derive(Clone, Copy)]
 pub struct Words<'a>(Option<&'a [u8]>);
 

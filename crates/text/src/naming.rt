@@ -31,6 +31,7 @@ impl Name {
     pub fn new(text: String) -> Option<Name>
         ensures { MatchOption result (name_form (string_bytes text) ≡ false) (λ name. (name_form (string_bytes text) ≡ true) × (name_bytes name ≡ string_bytes text)) }
     {
+        // Not by `then`: its closure would have to be told what was asked.
         if is_name(text.as_bytes()) {
             Some(Name { text })
         } else {

@@ -11,4 +11,4 @@ kind_number Ongoing = 2
 -- The number is read as the kind that has it, and refused where none has it.
 abbrev pub Numbered : ℕ → Result Kind UnknownKind → Type 0
 Numbered n (Ok kind) = kind_number kind ≡ n
-Numbered n (Err unknown) = (kind : Kind) → kind_number kind ≢ n
+Numbered n (Err unknown) = (unknown ≡ record { 0 = n }) × ((kind : Kind) → kind_number kind ≢ n)

@@ -36,7 +36,7 @@ pub fn follow<W: Watcher>(
     }
     let mut state = watcher.start();
     let count = letters.len().min(stands.len());
-    // By place: of what is written through a `zip` with `iter_mut` a proof knows nothing afterwards.
+    // By place: a proof knows nothing of the elements that are written through a `zip` with `iter_mut`.
     for (place, letter) in letters[..count].iter().enumerate() {
         state = watcher.next(state, *letter);
         stands[place] = Passed {

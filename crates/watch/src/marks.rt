@@ -12,7 +12,7 @@ use std::fmt;
 pub const MOST_MARKS: u8 = 8;
 
 // How many sets of marks there are.
-pub const MARK_SETS: usize = 256;
+pub const MARK_SETS: usize = 1 << MOST_MARKS;
 
 // A set of marks: mark i is bit i - 1.
 #[derive(Clone, Copy, PartialEq, Eq, Debug)]

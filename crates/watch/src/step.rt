@@ -12,9 +12,9 @@ use std::array;
 pub const PLACES: usize = MOST_EVENTS as usize;
 
 // What an event's digit counts for in a letter.
-const WEIGHTS: [u16; PLACES] = [1, 3, 9, 27, 81];
+const WEIGHTS: &[u16] = &[1, 3, 9, 27, 81];
 
-// What an event with each digit does. A table, since a `match` on what nobody can foresee costs a third of a closing's time.
+// What an event with each digit does. A table, since a `match` on what nobody can foresee takes more than a third of a closing's time.
 const KINDS: [Option<Kind>; DIGITS as usize] = [None, Some(Kind::Starting), Some(Kind::Ongoing)];
 
 // What each event does; an event without a kind is absent.
@@ -51,7 +51,7 @@ impl Step {
         kinds: [None; PLACES],
     };
 
-    // The step that has this letter. Each step comes back from its own letter, and each letter of so many events is one's own.
+    // The step that has this letter. Each step comes back from its own letter, and each letter over so many events from its own step.
     pub fn of(letter: u16) -> Step
         ensures digits { step_digits result ≡ digits_of letter }
         ensures back { (step : Step) → length step.kinds ≡ most_events → letter ≡ spelt (step_digits step) → result ≡ step }

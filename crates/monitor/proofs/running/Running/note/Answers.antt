@@ -12,7 +12,7 @@ pub returns-in_err-kind-clause-right : goal.returns-in_err-kind-clause-right
 returns-in_err-kind-clause-right c w plain same x =
     let e = c.args.event in
     let k = c.args.kind in
-    let bad : (ltb e c.args.events && (k == 1 || k == 2)) ≡ false = no_kind (ltb e c.args.events) k c.in_err-kind.ensures in
+    let bad : (ltb e c.args.events && (k == 1 || k == 2)) ≡ false = no_kind (ltb e c.args.events) k c.in_err-kind.ensures.1 in
     let said : c.from_residual.result ≡ Err Event = search rules in
     subst (λ (r : Result (Unit {0}) Refusal). (r ≡ note_answer c.args.events plain e k) × Follows w (after c.args.events plain (Note e k)) c.args.self.now) (sym said)
     (refused_note w plain c.args.self.now c.args.events e k Event x (out_of_range plain c.args.events e k bad))
