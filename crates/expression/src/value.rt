@@ -53,6 +53,7 @@ impl Expression {
         ensures size { length result ≡ 256 }
         ensures values { (s : ℕ) → s < 256 → slice_index_or result s false ≡ eval (formula self.now) s }
     {
+        // There are 256 sets, so the number of one fits.
         array::from_fn(|set| self.value(MarkSet { bits: set as u8 }))
     }
 }

@@ -25,6 +25,7 @@ fn is_term_within(rows: usize, token: &Token) -> bool
     ensures { result ≡ term_within rows token.now }
 {
     match token {
+        // No `From` takes a number of 32 bits to a `usize`.
         Token::Term(term) => 1 <= *term && *term as usize <= rows,
         _ => true,
     }
@@ -41,7 +42,8 @@ pub fn state_count(rows: &[Row]) -> Option<u16>
             return None;
         }
     }
-    u16::try_from(product).ok()
+    // It is no more than `MOST_STATES`, so there is no failure that `try_from` could tell of.
+    Some(product as u16)
 }
 
 // The questions in their order.

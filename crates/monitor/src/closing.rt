@@ -26,6 +26,7 @@ impl<W: Watcher> Monitor<W> {
         ensures closes { ClosesWith (W.watching self.old.watcher) (formula self.old.expression) self.old step result self.new }
     {
         for (event, kind) in step.kinds.iter().enumerate() {
+            // There are five events, so the number of one fits.
             self.note_kind(event as u8, *kind)?;
         }
         self.close()

@@ -50,6 +50,7 @@ fn count(set: &EventSet, doing: Doing, step: &Step) -> u16
     ensures value { result ≡ tally doing set.now.flags (step_digits step.now) }
     ensures bound { result ≤ 5 }
 {
+    // There are five events at most, so it fits.
     count_of(&set.flags, &step.kinds, doing) as u16
 }
 

@@ -16,9 +16,7 @@ fn object(heap: Global, value: &str) -> anyhow::Result<Vec<Param>> {
         name: name(heap, "object")?,
         value: name(heap, value)?,
     };
-    let mut params = Vec::new(heap);
-    params.push(param)?;
-    Ok(params)
+    Ok(vec![in heap; param]?)
 }
 
 fn play(heap: Global, value: &str) -> anyhow::Result<Event> {
@@ -56,17 +54,14 @@ fn play_of_m(heap: Global) -> anyhow::Result<Pattern> {
 // Three events: the plays of m and of n, and `pay`. The first row is `mostuntil 1 first play,object=m first pay`, the second
 // `within 3 first pay`, and the sheet keeps both.
 pub fn worked_sheet(heap: Global) -> anyhow::Result<Sheet> {
-    let mut events = Vec::new(heap);
-    events.push(play(heap, "m")?)?;
-    events.push(play(heap, "n")?)?;
-    events.push(pay(heap)?)?;
-    let mut rows = Vec::new(heap);
-    rows.push(Row::MostUntil(
+    let events = vec![in heap; play(heap, "m")?, play(heap, "n")?, pay(heap)?]?;
+    let plays = Row::MostUntil(
         1,
         Count::First(play_of_m(heap)?),
         Test::First(any_pay(heap)?),
-    ))?;
-    rows.push(Row::Within(3, Test::First(any_pay(heap)?)))?;
+    );
+    let paid = Row::Within(3, Test::First(any_pay(heap)?));
+    let rows = vec![in heap; plays, paid]?;
     let mut keep = Expression::blank();
     keep.read(b"and 1 2")?;
     Ok(Sheet::new(events, rows, keep)?)
