@@ -81,7 +81,8 @@ impl Refusal {
     }
 }
 
-// The first question that says no of these parts of a sheet.
+// The first question that says no of these parts of a sheet, if one does. An `Option`, as `find` answers it; who makes a sheet
+// turns it into an error.
 pub fn judge(events: &[Event], rows: &[Row], keep: &Expression) -> Option<Refusal>
     ensures { result ≡ judged events.now rows.now (formula keep.now) }
 {

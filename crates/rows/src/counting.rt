@@ -1,4 +1,5 @@
-// Tests and counts in a step, over the sets of declared events that their patterns match.
+// Tests and counts in a step, over the sets of declared events that their patterns match. A set and a step go through all of
+// them; a struct of the two would live for one call.
 ghost use Rattle.std.specs.Prelude.{◌≡◌, ◌≤◌, ◌&&◌, Bool, Option, count_by, length};
 ghost use Rattle.std.specs.List.{zip};
 ghost use Rattle.watch.specs.declared.kind.Kind.{Kind};
@@ -8,7 +9,7 @@ ghost use Rattle.rows.specs.Stepping.{means, tally, truth, absent, number as cou
 use osl::{Count, EventSet, Test};
 use watch::{Kind, Step};
 
-// Which doings of an event are meant.
+// Which doings of an event are meant. An enum and no closure: the specs speak of the same two.
 #[derive(Clone, Copy)]
 pub(crate) enum Doing {
     Starting,
