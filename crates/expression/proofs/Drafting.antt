@@ -1,9 +1,8 @@
 -- The steps of reading a line into words. Assumes nothing.
-use Rattle.std.proofs.Common.{◌≡◌, ℕ, ◌+◌, ◌-◌, drop, replicate, ◌<◌, ◌≤◌, true, List, [], ◌∷◌, ◌++◌, map, length, sym, refl, ap, ◌∙◌, append_assoc, arith}
+use Rattle.std.proofs.Common.{◌≡◌, ℕ, ◌+◌, ◌-◌, drop, replicate, ◌≤◌, true, List, [], ◌∷◌, ◌++◌, map, length, sym, refl, ap, ◌∙◌, arith}
 use Rattle.std.specs.List.{list_all}
-use Rattle.std.proofs.lemmas.List.{length-append, length-map, map_push, drop-drop, drop-replicate}
-use Rattle.std.proofs.lemmas.List.Folds.{list_all-append}
-use Rattle.std.proofs.lemmas.Bool.{and_parts, and_from}
+use Rattle.std.proofs.lemmas.List.{drop-drop, drop-replicate}
+use Rattle.std.proofs.lemmas.Bool.{and_parts}
 use Rattle.expression.specs.Writing.{spelled, in_range, most_words}
 use Rattle.expression.specs.inner.Padding.{blanks}
 use Rattle.expression.specs.inner.Drafts.{Drafting}
@@ -22,23 +21,6 @@ begins all = record { few = omega arith; ranged = refl; spells = refl }
 module _ (all : List (List ℕ)) (ts : List Token) (left : List (List ℕ)) (d : Drafting all ts left) (w : List ℕ) (tail : List (List ℕ)) (next : left ≡ w ∷ tail) where
   spell : map spelled ts ++ w ∷ tail ≡ all
   spell = ap (λ (ws : List (List ℕ)). map spelled ts ++ ws) (sym next) ∙ d.spells
-
-  -- One word more.
-  pub word_more : (t : Token) → length ts < most_words → in_range t ≡ true → w ≡ spelled t → Drafting all (ts ++ t ∷ []) tail
-  word_more t room h e = record {
-    few = omega (arith, length-append ts (t ∷ []));
-    ranged = list_all-append in_range ts (t ∷ []) ∙ and_from _ _ d.ranged (and_from (in_range t) true h refl);
-    spells =
-        ap (λ (ws : List (List ℕ)). ws ++ tail) (map_push spelled ts t)
-        ∙ (append_assoc (map spelled ts) (spelled t ∷ []) tail
-        ∙ (ap (λ (v : List ℕ). map spelled ts ++ v ∷ tail) (sym e) ∙ spell));
-  }
-
-  -- There are more than 15 words.
-  pub too_many : length ts ≡ most_words → (us : List Token) → length us ≤ most_words → list_all in_range us ≡ true → map spelled us ≡ all → ⊥
-  too_many full us few h e =
-      let a : length (map spelled us) ≡ length (map spelled ts ++ w ∷ tail) = ap length (e ∙ sym spell) in
-      omega (arith, length-map us spelled, length-append (map spelled ts) (w ∷ tail), length-map ts spelled)
 
   there : (us : List Token) (front : List (List ℕ)) → list_all in_range us ≡ true → map spelled us ≡ front ++ w ∷ tail → (t : Token) × (in_range t ≡ true) × (w ≡ spelled t)
   there [] [] h e = let z : ◌≡◌ {A = ℕ} 0 1 = cc in absurd (omega arith)

@@ -1,5 +1,5 @@
 -- Reading words in prefix order undoes writing them. Assumes nothing.
-use Rattle.std.proofs.Common.{◌≡◌, ℕ, zero, suc, ◌+◌, true, false, List, [], ◌∷◌, ◌++◌, length, get_or, drop, ◌<◌, add_comm, sym, refl, ap, ◌∙◌, append_assoc, append-nil, zero-add, arith}
+use Rattle.std.proofs.Common.{◌≡◌, ℕ, zero, suc, ◌+◌, true, false, List, [], ◌∷◌, ◌++◌, length, drop, ◌<◌, sym, refl, ap, ◌∙◌, append_assoc, append-nil, zero-add, arith}
 use Rattle.std.proofs.lemmas.Bool.{eqb-true, both_ways}
 use Rattle.std.proofs.lemmas.List.{at_drop_more}
 use Rattle.expression.specs.Formulas.{Formula, term, not, and, or, implies}
@@ -83,9 +83,3 @@ written_one f ts e = ap (whole 1) (e ∙ sym (append-nil (written f))) ∙ writt
 -- No word stands where no expression is wanted.
 pub none_wanted : (n : ℕ) (ts : List Token) (i : ℕ) → n ≡ 0 → i < length ts → whole n (drop i ts) ≡ false
 none_wanted n ts i e lt = ap (λ (k : ℕ). whole k (drop i ts)) e ∙ at_drop_more (whole 0) ts i And lt
-
--- A word stands where one is wanted, and its operands are wanted behind it.
-pub one_wanted : (n : ℕ) (ts : List Token) (i : ℕ) (t d : Token) → i < length ts → get_or ts i d ≡ t → whole (n + operands t) (drop (i + 1) ts) ≡ whole (suc n) (drop i ts)
-one_wanted n ts i t d lt e =
-    ap (λ (k : ℕ). whole k (drop (i + 1) ts)) (add_comm n (operands t))
-    ∙ (ap (λ (u : Token). whole (operands u + n) (drop (i + 1) ts)) (sym e) ∙ sym (at_drop_more (whole (suc n)) ts i d lt))

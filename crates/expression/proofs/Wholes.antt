@@ -4,7 +4,7 @@ use mathlib.Core.HLevel.{is_prop→PathP}
 use mathlib.Core.Bool.{Bool-set}
 use Rattle.std.specs.List.{list_all}
 use Rattle.std.proofs.lemmas.List.Splits.{join_with_byte-slice_split}
-use Rattle.std.proofs.lemmas.Bool.{and_parts, and_from, leb-true, le-leb, both_ways}
+use Rattle.std.proofs.lemmas.Bool.{and_parts, leb-true, both_ways}
 use Rattle.text.specs.Words.{words, joined}
 use Rattle.text.specs.Lines.{unended, Ends}
 use Rattle.text.specs.Clean.{clean}
@@ -29,9 +29,6 @@ module _ (line : List ℕ) (tokens : List Token) (d : Drafting (words line) toke
 
   pub not_whole : whole 1 tokens ≡ false → (f : Formula) → Fits f → line ≡ writing f → ⊥
   not_whole less f fits e = both_ways _ less (written_one f tokens (its_words f fits e))
-
-  pub is_formed : whole 1 tokens ≡ true → formed tokens ≡ true
-  is_formed one = and_from _ _ (and_from _ _ (le-leb (length tokens) most_words d.few) one) d.ranged
 
   pub line_of : whole 1 tokens ≡ true → line ≡ writing (first (parsed tokens))
   line_of one =

@@ -36,9 +36,6 @@ for_both P t f true = t
 for_both P t f false = f
 
 module _ (w : Watching) (law : Lawful w) (good : List Bool) (x : Memory) (ok : Searching w good x) where
-  pub depth_fits : x.depth ≤ 16384
-  depth_fits = omega (arith, ok.room, count_by-le-length (λ b. b) x.seen, ok.sized.seen)
-
   -- There is room for a state that was never seen.
   pub room_left : (u : ℕ) → u < w.states → at x.seen u ≡ false → x.depth < 16384
   room_left u within new =

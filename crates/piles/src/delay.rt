@@ -45,8 +45,8 @@ impl<W: Watcher> Delay<W> {
         Delay { below, steps }
     }
 
-    // Follows the delay along the letters, as `watch::follow` does. What is followed is the delay of the watcher below,
-    // which a method that the trait provides could not say.
+    // Follows the delay along the letters, as `watch::follow` does. What is followed is the delay of the watcher below;
+    // a method that the trait provides would say it of `watching self`, which a reader would have to look up.
     pub fn follow(&self, letters: &[u16], stands: &mut [Passed]) -> Result<MarkSet, usize>
         ensures { Follows (delay (W.watching self.now.below) self.now.steps) letters.now stands.old stands.new result }
     {

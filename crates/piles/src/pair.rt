@@ -57,8 +57,8 @@ impl<A: Watcher, B: Watcher> Pair<A, B> {
         Pair { first, second }
     }
 
-    // Follows the pair along the letters, as `watch::follow` does. What is followed is the pair of the two watchers,
-    // which a method that the trait provides could not say.
+    // Follows the pair along the letters, as `watch::follow` does. What is followed is the pair of the two watchers;
+    // a method that the trait provides would say it of `watching self`, which a reader would have to look up.
     pub fn follow(&self, letters: &[u16], stands: &mut [Passed]) -> Result<MarkSet, usize>
         ensures { Follows (pair (A.watching self.now.first) (B.watching self.now.second)) letters.now stands.old stands.new result }
     {

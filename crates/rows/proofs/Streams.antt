@@ -393,9 +393,6 @@ answer_counts n a b s p h e = elim (cases_Bool a) [ inl f ↦ grind (arith, nat_
 answer_rests : (n : ℕ) (a b : Bool) (s : ℕ) → s ≡ 0 → 0 < n → b ≡ false → a ≡ false → answer_move n a b s ≡ 0
 answer_rests n a b s h p e f = grind (arith, nat_tests)
 
-answer_stays : (n : ℕ) (a b : Bool) (s : ℕ) → s ≡ n → answer_move n a b s ≡ n
-answer_stays n a b s h = grind (arith, nat_tests)
-
 module _
     (n : ℕ) (a b : ℕ → Bool) (P Q : ℕ → Type 0) (da : (v : ℕ) → Decides (a v) (P v)) (db : (v : ℕ) → Decides (b v) (Q v))
   where

@@ -29,8 +29,8 @@ impl Table {
         }
     }
 
-    // Follows the table along the letters, as `watch::follow` does. What is followed is what the list draws, which a method
-    // that the trait provides could not say.
+    // Follows the table along the letters, as `watch::follow` does. What is followed is what the list draws; a method that
+    // the trait provides would say it of `watching self`, which a reader would have to look up.
     pub fn follow(&self, letters: &[u16], stands: &mut [Passed]) -> Result<MarkSet, usize>
         ensures { Follows (drawn self.now.words.items) letters.now stands.old stands.new result }
     {

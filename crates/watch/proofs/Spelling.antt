@@ -46,14 +46,6 @@ pub spelt_onto-nil : (ks : List (Option Kind)) (n : ℕ) → length ks ≡ 0 →
 spelt_onto-nil [] n none = refl
 spelt_onto-nil (k ∷ ks) n none = absurd (omega arith)
 
-pub power_some : (n : ℕ) → n < most_events → 0 < digits ^ n
-power_some zero few = omega arith
-power_some (suc zero) few = omega arith
-power_some (suc (suc zero)) few = omega arith
-power_some (suc (suc (suc zero))) few = omega arith
-power_some (suc (suc (suc (suc zero)))) few = omega arith
-power_some (suc (suc (suc (suc (suc n))))) few = absurd (omega arith)
-
 kind_of_digit : (j k : Option Kind) → digit_of j ≡ digit_of k → j ≡ k
 kind_of_digit None None same = refl
 kind_of_digit None (Some Starting) same = absurd (omega arith)

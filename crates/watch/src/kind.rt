@@ -1,6 +1,6 @@
 // What an event that is not absent does in a step.
-ghost use Rattle.std.specs.Prelude.{◌≡◌};
-ghost use Rattle.watch.specs.Kinds.{Numbered, kind_number};
+ghost use Rattle.std.specs.Prelude.{◌≡◌, Some};
+ghost use Rattle.watch.specs.Kinds.{Numbered, kind_number, unknown_text};
 
 use std::error::Error;
 use std::fmt;
@@ -39,6 +39,8 @@ impl From<Kind> for u8 {
 }
 
 impl fmt::Display for UnknownKind {
+    ghost output = { λ unknown. Some (unknown_text unknown) };
+
     fn fmt<W: fmt::Write>(&self, f: &mut fmt::Formatter<W>) -> fmt::Result {
         write!(f, "no kind of note has number {}", self.0)
     }
