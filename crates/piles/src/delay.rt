@@ -67,13 +67,15 @@ impl<W: Watcher> Watcher for Delay<W> {
 
     ghost lawful = { λ d. delay_lawful (W.watching d.below) d.steps (W.lawful d.below) };
 
+    // The watcher below is asked once, whatever it is: a stub may stand on stubs.
     fn sizes(&self) -> Sizes {
-        match self.under() {
-            Some(below) => Sizes {
-                states: below.states + self.steps,
-                ..below
-            },
-            None => stub_sizes(self.below.sizes()),
+        let below = self.below.sizes();
+        if !keeps_limits(below.states, self.steps) {
+            return stub_sizes(below);
+        }
+        Sizes {
+            states: below.states + self.steps,
+            ..below
         }
     }
 

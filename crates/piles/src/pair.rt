@@ -78,11 +78,14 @@ impl<A: Watcher, B: Watcher> Watcher for Pair<A, B> {
 
     ghost lawful = { λ p. pair_lawful (A.watching p.first) (B.watching p.second) (A.lawful p.first) (B.lawful p.second) };
 
+    // Each of the two is asked once, whatever it is: a stub may stand on stubs.
     fn sizes(&self) -> Sizes {
-        match self.halves() {
-            Some(halves) => halves.joined(),
-            None => stub_sizes(self.first.sizes()),
+        let first = self.first.sizes();
+        let second = self.second.sizes();
+        if !keeps_limits(first, second) {
+            return stub_sizes(first);
         }
+        Halves { first, second }.joined()
     }
 
     fn start(&self) -> u16 {
