@@ -1,7 +1,8 @@
 // Numbers as they are written: at most six digits, of which the first is 0 only in 0 itself.
-ghost use Rattle.std.specs.Prelude.{◌≡◌, ℕ, ◌<◌, decimal, MatchOption, ◌≢◌};
+ghost use Rattle.std.specs.Prelude.{◌≡◌, ℕ, ◌<◌, true, decimal, MatchOption, ◌≢◌};
 ghost use Rattle.std.specs.Char.{is_ascii_digit};
 ghost use Rattle.std.specs.List.{list_all};
+ghost use Rattle.std.specs.Str.Parse.{digits_value};
 ghost use Rattle.text.specs.Numbers.{number_limit};
 ghost use Rattle.text.specs.inner.Digits.{number_form};
 
@@ -14,7 +15,7 @@ pub fn number(word: &[u8]) -> Option<u32>
     if !is_number(word) {
         return None;
     }
-    str::from_utf8(word).ok()?.parse().ok()
+    Some(value(word))
 }
 
 fn all_digits(word: &[u8]) -> bool
@@ -29,4 +30,16 @@ fn is_number(word: &[u8]) -> bool
     (1..=MOST_DIGITS).contains(&word.len())
         && all_digits(word)
         && (word.len() == 1 || word[0] != b'0')
+}
+
+// One pass over the digits: `parse` takes a text, and would go over the word twice more.
+fn value(word: &[u8]) -> u32
+    requires { number_form word.now ≡ true }
+    ensures { result ≡ digits_value 10 word.now }
+{
+    let mut n = 0;
+    for b in word {
+        n = 10 * n + u32::from(*b - b'0');
+    }
+    n
 }
