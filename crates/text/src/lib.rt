@@ -9,7 +9,7 @@ mod name;
 mod naming;
 mod numbers;
 
-pub use apart::are_apart;
+pub use apart::{Compares, are_apart};
 pub use bytes::unended;
 pub use clean::is_clean;
 pub use line::Words;

@@ -7,7 +7,7 @@ ghost use Rattle.text.specs.Words.{words, words_left, joined};
 // an empty word is left. The library's `split` gives the same words; the `next` of a type of our own
 // promises them by `words_left`, which is what each reader of a line cites.
 #[derive(Clone, Copy)]
-pub struct Words<'a>(Option<&'a [u8]>);
+pub struct Words<'a>(pub Option<&'a [u8]>);
 
 impl<'a> Words<'a> {
     pub fn of(line: &'a [u8]) -> Words<'a>
