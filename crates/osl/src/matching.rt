@@ -37,7 +37,7 @@ impl Param {
 fn has_pair(params: &[Param], pair: Pair) -> bool
     ensures { result ≡ has (pairs params.now) (pair_words pair.entry) }
 {
-    params.iter().any(|param| pair == param.pair())
+    params.iter().any(|param| *pair.name == param.name && *pair.value == param.value)
 }
 
 // Whether the parameters have all of these.

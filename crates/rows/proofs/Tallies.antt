@@ -1,13 +1,15 @@
--- Counting the events of a set, each beside what it does in the step. Assumes nothing.
-use Rattle.std.proofs.Common.{◌≡◌, ◌+◌, Bool, ◌&&◌, cond, List, [], ◌∷◌, map, Option, refl, ap, ◌∙◌, count_by}
-use Rattle.std.proofs.lemmas.List.Sums.{sum_by-cons}
-use Rattle.std.specs.List.{zip}
-use Rattle.watch.specs.Steps.{digit_of}
-use Rattle.watch.specs.declared.kind.Kind.{Kind}
+-- Counting the events of a set, one after another. Assumes nothing.
+use Rattle.std.proofs.Common.{◌≡◌, ℕ, ◌+◌, ◌<◌, ◌≤◌, Bool, false, cond, ◌&&◌, List, ◌∷◌, length, get_or, drop, ◌∙◌}
+use Rattle.std.proofs.lemmas.List.{at_drop_more, at_drop_all}
 use Rattle.rows.specs.declared.counting.Doing.{Doing}
 use Rattle.rows.specs.Stepping.{means, tally}
 
-pub tally_zip : (w : Doing) (fs : List Bool) (ks : List (Option Kind)) → count_by (λ (p : Bool × Option Kind). p.0 && means w (digit_of p.1)) (zip fs ks) ≡ tally w fs (map digit_of ks)
-tally_zip w [] ks = refl
-tally_zip w (f ∷ fs) [] = refl
-tally_zip w (f ∷ fs) (k ∷ ks) = sum_by-cons (λ (p : Bool × Option Kind). cond (p.0 && means w (digit_of p.1)) 1 0) (f, k) (zip fs ks) ∙ ap (λ n. cond (f && means w (digit_of k)) 1 0 + n) (tally_zip w fs ks)
+pub tally_more :
+    (w : Doing) (fs : List Bool) (ds : List ℕ) (i : ℕ) → i < length fs → i < length ds →
+    tally w (drop i fs) (drop i ds) ≡ cond (get_or fs i false && means w (get_or ds i 0)) 1 0 + tally w (drop (i + 1) fs) (drop (i + 1) ds)
+tally_more w fs ds i hf hd =
+    at_drop_more (λ (xs : List Bool). tally w xs (drop i ds)) fs i false hf ∙
+    at_drop_more (λ (ys : List ℕ). tally w (get_or fs i false ∷ drop (i + 1) fs) ys) ds i 0 hd
+
+pub tally_all : (w : Doing) (fs : List Bool) (ds : List ℕ) (i : ℕ) → length fs ≤ i → tally w (drop i fs) (drop i ds) ≡ 0
+tally_all w fs ds i past = at_drop_all (λ (xs : List Bool). tally w xs (drop i ds)) fs i past
