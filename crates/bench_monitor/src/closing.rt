@@ -1,4 +1,5 @@
 // Closing steps: the notes of each step, its closing, and the word after it.
+use anyhow::anyhow;
 use expression::Expression;
 use monitor::{Monitor, Word};
 use std::time::Instant;
@@ -33,7 +34,9 @@ pub fn time_closings<W: Watcher + Drop>(
     let begun = Instant::now(rt)?;
     for _ in 0..times {
         seed = stirred(seed);
-        monitor.close_with(Step::of(((seed >> 16) % letters) as u16))?;
+        monitor
+            .close_with(Step::of(((seed >> 16) % letters) as u16))
+            .map_err(|_| anyhow!("a note or a closing was refused"))?;
         if let (Word::Open, _) = monitor.verdict() {
             open = open.wrapping_add(1);
         }

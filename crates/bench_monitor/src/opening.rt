@@ -14,9 +14,13 @@ pub struct Opened {
     pub nanos: u128,
 }
 
-// How many are true.
+// How many are true. A sum, since a `filter` would jump at each of them, and they take a fifth of a small opening.
 fn count(table: &[bool]) -> usize {
-    table.iter().filter(|is| **is).count()
+    let mut count = 0usize;
+    for is in table {
+        count = count.wrapping_add(usize::from(*is));
+    }
+    count
 }
 
 // Opens a monitor over the watcher, for term 1. The states are counted outside of the time.

@@ -24,10 +24,15 @@ where
     requires up_to { UpTo (I.remaining parts) (2 ^ 64 - 1) }
     requires tells { F.IsAlwaysCallable fault }
 {
-    parts
-        .enumerate()
-        .map(|(place, part)| number(part).ok_or_else(|| fault(place.saturating_add(1))))
-        .try_collect(heap)
+    // A `for`, since a chain of results would hand on an error's room with each number.
+    let mut numbers = Vec::new(heap);
+    for (place, part) in parts.enumerate() {
+        let Some(n) = number(part) else {
+            return Err(fault(place.saturating_add(1)));
+        };
+        numbers.push(n)?;
+    }
+    Ok(numbers)
 }
 
 // The words of a drawn table.
