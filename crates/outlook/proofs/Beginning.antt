@@ -69,5 +69,5 @@ module _ (w : Watching) (law : Lawful w) (good : List Bool) (x : Memory) (ok : S
       fades = λ s within e no-v. ok.fades s (gone s within) (subst (λ (b : Bool). known x b s ≡ false) (sym e) no-v);
     }
 
-    pub foretold : (v : Bool) → Foresees w good v (at (cond v x.keepable x.breakable))
-    foretold v = foresees w law good v _ (all_known v)
+    pub foretold_by_memory : (v : Bool) → Foresees w good v (at (cond v x.keepable x.breakable))
+    foretold_by_memory v = foresees w law good v _ (all_known v)

@@ -14,7 +14,7 @@ use Rattle.outlook.specs.declared.state.State.{State}
 use Rattle.outlook.specs.declared.search.Standing.TheVariants.{New, At, Gone}
 use Rattle.outlook.specs.declared.search.Search.{Search}
 use Rattle.outlook.proofs.Basics.{groups_le, room_left}
-use Rattle.outlook.proofs.Beginning.{visit_push, foretold}
+use Rattle.outlook.proofs.Beginning.{visit_push, foretold_by_memory}
 use Rattle.outlook.proofs.Stepping.{step_back, step_leave, step_new, step_gone, step_held}
 use Rattle.outlook.proofs.Showing.{cursor_is, was_seen, letter_shows, note_shows, absorb_shows, join_shows, back_shows, push_shows, leave_shows, handed, stepped}
 
@@ -35,9 +35,9 @@ module _ (w : Watching) (law : Lawful w) (good : List Bool) (x : Search) (m : Me
     visit_goes idle = (pushed m u.number, shows, visit_push w law good m ok (sh.here ∙ ap upto idle) u.number within (sh.new u.number new))
 
   -- Every state was on the path, and the path is empty.
-  pub told : x.here ≡ None → ((s : ℕ) → s < w.states → standing x s ≢ New) → (v : Bool) → Foresees w good v (at (cond v x.keepable x.breakable))
-  told idle all v =
-      subst₂ (λ (k b : List Bool). Foresees w good v (at (cond v k b))) sh.keepable sh.breakable (foretold w law good m ok (sh.here ∙ ap upto idle) (λ s lt. was_seen x m sh s (all s lt)) v)
+  pub foretold : x.here ≡ None → ((s : ℕ) → s < w.states → standing x s ≢ New) → (v : Bool) → Foresees w good v (at (cond v x.keepable x.breakable))
+  foretold idle all v =
+      subst₂ (λ (k b : List Bool). Foresees w good v (at (cond v k b))) sh.keepable sh.breakable (foretold_by_memory w law good m ok (sh.here ∙ ap upto idle) (λ s lt. was_seen x m sh s (all s lt)) v)
 
   module _ (t : ℕ) (here : x.here ≡ Some t) where
     is : m.here ≡ t + 1

@@ -5,6 +5,7 @@
 // A group that no letter is left to join is done, and leaves the path. Nothing is on the heap.
 ghost use Rattle.std.specs.Prelude.{◌≡◌, ◌≢◌, ℕ, ◌-◌, ◌<◌, ◌≤◌, Bool, true, false, List, length};
 ghost use Rattle.arrayvec.specs.ArrayVec.{array_vec_len};
+ghost use Rattle.watch.specs.Letters.{letter_count, most_events};
 ghost use Rattle.watch.specs.Watchers.{Watching};
 ghost use Rattle.outlook.specs.inner.Tables.{item};
 ghost use Rattle.outlook.specs.inner.Showing.{Goes};
@@ -117,7 +118,7 @@ impl Search {
 
     // Takes the next letter of the state.
     pub(crate) fn take_letter(&mut self, state: State) -> u16
-        requires { cursor self.old state.number < 243 }
+        requires { cursor self.old state.number < letter_count most_events }
         ensures letter { result ≡ cursor self.old state.number }
         ensures after { self.new ≡ after_letter self.old state.number }
     {

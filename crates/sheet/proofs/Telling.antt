@@ -25,7 +25,8 @@ use Rattle.expression.specs.Formulas.{Formula, term, not, and, or, implies, True
 use Rattle.limits.specs.Questions.{product, all_yes}
 use Rattle.sheet.specs.Joints.{joint, marks_at, matched_all, nothing, watched}
 use Rattle.sheet.specs.Meaning.{at_row, RowTrue, RowTold, Means}
-use Rattle.sheet.specs.Limits.{Bounds, within, lawful_rows, declared, events_differ}
+use Rattle.sheet.specs.Bounds.{Bounds}
+use Rattle.sheet.specs.Limits.{within, lawful_rows, declared, events_differ}
 use Rattle.sheet.specs.Parts.{part, part_start, part_next, length_matched, matched_at, shown→broken, broken→shown}
 use Rattle.sheet.specs.Watched.{stepping, showing, no_mark_past, some_row, sheet_lawful}
 

@@ -1,10 +1,11 @@
 -- A word that is right over a sheet's watcher is right in OSL. Assumes nothing.
 use Rattle.std.proofs.Common.{ℕ, List, [], ◌∷◌}
+use Rattle.watch.specs.Watchers.{Watching}
 use Rattle.osl.specs.declared.event.Event.{Event}
 use Rattle.osl.specs.declared.row.Row.{Row}
 use Rattle.expression.specs.Formulas.{Formula}
 use Rattle.monitor.specs.Words.{RightWord}
-use Rattle.monitor.specs.Plain.{Plain, AnswersBy, AgreesBy, after}
+use Rattle.monitor.specs.Plain.{Plain, RightAnswer, Agrees, AnswersBy, AgreesBy, after}
 use Rattle.monitor.specs.declared.word.Word.{Word}
 use Rattle.monitor.specs.declared.calls.Call.{Call}
 use Rattle.monitor.specs.declared.calls.Call.TheVariants.{Note, Close, Ask}
@@ -31,6 +32,14 @@ right_word events rows keep m closed word right =
                 λ none. right.satisfied.back (λ run over begins broken. none run over begins (λ kept. broken ((m.kept run over).back kept)));
           };
     }
+
+-- Answers that agree with the plain monitor's agree over the watcher's events, where the right word is the watcher's: by definition.
+module _ (w : Watching) (f : Formula) where
+  answers_by : (p : Plain) (c : Call) (a : Answer) → RightAnswer w f p c a → AnswersBy w.events (RightWord w f) p c a
+  answers_by p c a right = right
+
+  pub agrees_by : (p : Plain) (cs : List Call) (more : List Answer) → Agrees w f p cs more → AgreesBy w.events (RightWord w f) p cs more
+  agrees_by p cs more right = right
 
 -- answers that agree where one word is right agree where another is that follows from it
 module _ (g : ℕ) (R S : List ℕ → Word → Type 0) (so : (closed : List ℕ) (word : Word) → R closed word → S closed word) where

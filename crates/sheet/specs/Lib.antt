@@ -3,6 +3,7 @@ pub mod Meaning
 pub mod Words
 pub mod Sheets
 pub mod Making
+pub mod Bounds
 pub mod Limits
 pub mod Watched
 pub mod Parts

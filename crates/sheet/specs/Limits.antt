@@ -1,5 +1,5 @@
 -- What the questions' yes gives: the limits of a sheet as facts. Assumes nothing.
-use Rattle.std.specs.Prelude.{◌≡◌, ℕ, ◌<◌, ◌≤◌, Bool, true, false, not, ◌&&◌, List, [], ◌∷◌, map, length, vec_items, nat_le, nat_lt, refl}
+use Rattle.std.specs.Prelude.{◌≡◌, ℕ, ◌<◌, Bool, true, false, not, ◌&&◌, List, [], ◌∷◌, map, length, vec_items, nat_le, nat_lt, refl}
 use Rattle.std.proofs.Common.{sym, ap, subst, ◌∙◌, inl, inr, ⊎_elim}
 use Rattle.std.specs.List.{AllByRecursion}
 use Rattle.std.specs.Str.{bytes_eq}
@@ -30,13 +30,7 @@ use Rattle.limits.specs.Forms.{row_in_range, called, row_free}
 use Rattle.limits.specs.Events.{same_class, events_clash, params_once}
 use Rattle.limits.specs.Questions.{product, all_yes}
 use Rattle.limits.proofs.Passing.{passes}
-
-pub record Bounds (events : List Event) (rows : List Row) : Type 0 where
-  pub some_events : 1 ≤ length events
-  pub few_events : length events ≤ most_events
-  pub some_rows : 1 ≤ length rows
-  pub few_rows : length rows ≤ most_marks
-  pub few_states : product rows ≤ most_states
+use Rattle.sheet.specs.Bounds.{Bounds}
 
 pub within : (events : List Event) (rows : List Row) (keep : Formula) → all_yes events rows keep ≡ true → Bounds events rows
 within events rows keep e =

@@ -14,7 +14,7 @@ use Rattle.rows.proofs.Bounds.{moved_broken}
 use Rattle.limits.specs.Questions.{product}
 use Rattle.limits.proofs.Products.{product_pos}
 use Rattle.sheet.specs.Joints.{joint, marks_at, matched_all, nothing, watched}
-use Rattle.sheet.specs.Limits.{Bounds}
+use Rattle.sheet.specs.Bounds.{Bounds}
 use Rattle.sheet.specs.Parts.{part, joint_below, part_next, length_matched, shown→broken, broken→shown, marks_below}
 
 module _ (events : List Event) (rows : List Row) where

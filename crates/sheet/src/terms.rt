@@ -9,7 +9,7 @@ ghost use Rattle.osl.specs.Resolving.{matched_by};
 ghost use Rattle.expression.specs.Expressions.{formula};
 ghost use Rattle.limits.specs.Questions.{judged};
 ghost use Rattle.sheet.specs.Joints.{joint, marks_at, matched_all, nothing, watched};
-ghost use Rattle.sheet.specs.Limits.{Bounds};
+ghost use Rattle.sheet.specs.Bounds.{Bounds};
 
 use expression::Expression;
 use limits::{Refusal, judge, state_count};

@@ -12,7 +12,13 @@ use std::array;
 pub const PLACES: usize = MOST_EVENTS as usize;
 
 // What an event's digit counts for in a letter.
-const WEIGHTS: &[u16] = &[1, 3, 9, 27, 81];
+const WEIGHTS: &[u16] = &[
+    1,
+    DIGITS,
+    DIGITS * DIGITS,
+    DIGITS * DIGITS * DIGITS,
+    DIGITS * DIGITS * DIGITS * DIGITS,
+];
 
 // What an event with each digit does. A table, since a `match` on what nobody can foresee takes more than a third of a closing's time.
 const KINDS: [Option<Kind>; DIGITS as usize] = [None, Some(Kind::Starting), Some(Kind::Ongoing)];

@@ -1,6 +1,6 @@
 use Rattle.std.proofs.Common.{◌≡◌, true, false, ap, arith}
 use Rattle.watch.specs.declared.watcher.Sizes.{Sizes}
-use Rattle.outlook.proofs.Steps.{told}
+use Rattle.outlook.proofs.Steps.{foretold}
 use Rattle.outlook.proofs.looking.outlook.Goals as goal
 
 pub loop-number-init : goal.loop-number-init
@@ -14,5 +14,5 @@ returns g c =
     let law = g.met.W.Watcher.lawful c.args.watcher.now in
     let count : c.sizes-sizes.result.states ≡ w.states = ap (λ (z : Sizes). z.states) c.sizes-sizes.ensures in
     let i = c.loop-number.invariant in
-    let all = told w law c.args.good.now c.loop-number.search i.0.0 i.0.1 i.0.2 i.1 (λ s lt. i.2 s (omega (arith, lt, count))) in
+    let all = foretold w law c.args.good.now c.loop-number.search i.0.0 i.0.1 i.0.2 i.1 (λ s lt. i.2 s (omega (arith, lt, count))) in
     record { keepable = all true; breakable = all false }
