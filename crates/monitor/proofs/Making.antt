@@ -117,6 +117,11 @@ one_closing w f m n r takes plain stands =
     let t = takes plain stands in
     (t.0 ∙ told (close_answer plain), subst (Represents w f n) (sym (made_once (is_ok (close_answer plain)) _ plain)) t.1)
 
+-- What was made of an event's number was made of its place, where the two are the same.
+pub made_at : {W : Type 0} (w : Watching) (f : Formula) (m n : Monitor W) (kind : Option Kind) (r : Result (Unit {0}) Refusal) (i e : ℕ)
+    → Makes w f m (note_of e kind) r n → e ≡ i → Makes w f m (note_of i kind) r n
+made_at w f m n kind r i e makes is = subst (λ (k : ℕ). Makes w f m (note_of k kind) r n) is makes
+
 -- Where all but the last calls are made, what the last come to is what all come to.
 pub upto_end : {W : Type 0} (watch : W → Watching) (m n k : Monitor W) (all calls : List Call) → Upto (watch m.watcher) (formula m.expression) m n all calls → Same n k
     → (r : Result (Unit {0}) Refusal) → Makes (watch n.watcher) (formula n.expression) n calls r k → Makes (watch m.watcher) (formula m.expression) m all r k

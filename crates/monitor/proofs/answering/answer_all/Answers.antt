@@ -1,9 +1,10 @@
-use Rattle.std.proofs.Common.{◌≡◌, ℕ, ◌+◌, List, take, drop, sym, refl, ap, ◌∙◌, subst, subst₂, length, get_or, ◌<◌, arith}
+use Rattle.std.proofs.Common.{rules, ◌≡◌, ℕ, ◌+◌, List, take, drop, sym, refl, ap, ◌∙◌, subst, subst₂, length, get_or, ◌<◌, arith}
 use Rattle.std.proofs.lemmas.List.{length-take-le, get_or-take, take_more, take_more_set, drop-set-lt, drop-drop}
 use Rattle.monitor.specs.Plain.{opened, Agrees}
 use Rattle.expression.specs.Expressions.{formula}
 use Rattle.monitor.specs.inner.Standing.{Represents, Answers}
 use Rattle.monitor.specs.declared.calls.Call.{Call}
+use Rattle.monitor.specs.declared.calls.Call.TheVariants.{Note}
 use Rattle.monitor.specs.declared.calls.Answer.{Answer}
 use Rattle.monitor.proofs.Agreeing.{answered_more}
 use Rattle.monitor.proofs.answering.answer_all.Goals as goal
@@ -32,8 +33,10 @@ loop-place-preserved g c =
     let n : ℕ = c.min-count.result in
     let size : length (take n calls) ≡ n = length-take-le n calls (omega (arith, c.min-count.ensures)) in
     let lt : i < n = omega arith in
-    let there : get_or (take n calls) i _ ≡ get_or calls i _ = get_or-take n calls i _ lt in
-    let said = subst (λ (k : Call). Answers (g.W.Watcher.watching m.watcher) (formula m.expression) m k a c.call.new.self) there c.call.ensures.answers in (
+    let there : get_or (take n calls) i (Note 0 0) ≡ get_or calls i (Note 0 0) = get_or-take n calls i (Note 0 0) lt in
+    let Said : Call → Type 0 = λ (k : Call). Answers (g.W.Watcher.watching m.watcher) (formula m.expression) m k a c.call.new.self in
+    let moved : Said (get_or (take n calls) i (Note 0 0)) → Said (get_or calls i (Note 0 0)) = λ said. subst Said there said in
+    let said : Said (get_or calls i (Note 0 0)) = search (rules, moved, c.call.ensures.answers) in (
       answered_more g.W.Watcher.watching c.open-monitor.result m c.call.new.self calls i _ (take i answers) _ a c.loop-place.invariant.0 c.call.ensures.same said
           (take_more calls i _ (omega (arith, c.min-count.ensures))) (take_more_set answers i a (omega (arith, c.min-count.ensures))),
       drop-set-lt (i + 1) answers i a (omega arith) ∙ (sym (drop-drop 1 i answers) ∙ (ap (drop 1) c.loop-place.invariant.1 ∙ drop-drop 1 i before)),

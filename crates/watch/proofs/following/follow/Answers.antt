@@ -1,4 +1,4 @@
-use Rattle.std.proofs.Common.{◌≡◌, ℕ, List, length, get_or, take, ap, ◌∙◌, subst, arith}
+use Rattle.std.proofs.Common.{◌≡◌, ℕ, List, length, get_or, take, ap, subst, arith}
 use Rattle.std.proofs.lemmas.List.{length-take-le, get_or-take}
 use Rattle.watch.specs.Following.{Within}
 use Rattle.watch.specs.declared.watcher.Sizes.{Sizes}
@@ -15,8 +15,9 @@ loop-place-preserved g c =
     let n : ℕ = c.min-count.result in
     let all : length (take n letters) ≡ n = length-take-le n letters (omega (arith, c.min-count.ensures)) in
     let there : get_or (take n letters) c.loop-place.place 0 ≡ get_or letters c.loop-place.place 0 = get_or-take n letters c.loop-place.place 0 (omega arith) in
+    let stepped : c.next-state.result ≡ w.next c.loop-place.state (get_or letters c.loop-place.place 0) = omega (arith, c.next-state.ensures, ap (w.next c.loop-place.state) there) in
     step w letters c.args.stands.now c.loop-place.stands
-    c.loop-place.place c.loop-place.state c.next-state.result c.shown.result (c.next-state.ensures ∙ ap (w.next c.loop-place.state) there) c.shown.ensures
+    c.loop-place.place c.loop-place.state c.next-state.result c.shown.result stepped c.shown.ensures
     (omega (arith, c.min-count.ensures)) (omega (arith, c.min-count.ensures)) c.loop-place.invariant
 
 pub returns-clause-followed : goal.returns-clause-followed

@@ -4,7 +4,7 @@ use Rattle.expression.specs.Expressions.{formula}
 use Rattle.monitor.specs.Closing.{Makes, closing, note_of}
 use Rattle.monitor.specs.declared.calls.Call.TheVariants.{Close}
 use Rattle.monitor.specs.declared.refusal.Refusal.{Refusal}
-use Rattle.monitor.proofs.Making.{Upto, left_from, left_next, left_last, upto_more, upto_refused, upto_end, one_closing}
+use Rattle.monitor.proofs.Making.{Upto, left_from, left_next, left_last, upto_more, upto_refused, upto_end, one_closing, made_at}
 use Rattle.monitor.proofs.Shutting.{closes_with}
 use Rattle.monitor.proofs.monitor.Monitor.close_with.Goals as goal
 
@@ -17,7 +17,7 @@ loop-event-preserved g c =
     let five : length kinds ≡ 5 = search rules in
     let next = subst (Upto (watch m.watcher) (formula m.expression) m c.loop-event.self (closing c.args.step)) (left_next kinds i (omega (arith, five, c.loop-event-test.true))) c.loop-event.invariant in
     upto_more watch m c.loop-event.self c.note_kind.new.self (closing c.args.step) (note_of i (get_or kinds i None)) (left_from kinds (i + 1)) next c.note_kind.ensures.same
-    c.in_ok-note_kind.ensures.makes
+    (made_at _ _ _ _ _ _ i _ c.in_ok-note_kind.ensures.makes (omega arith))
 
 pub returns-in_err-note_kind-clause-makes : goal.returns-in_err-note_kind-clause-makes
 returns-in_err-note_kind-clause-makes g c =
@@ -29,7 +29,8 @@ returns-in_err-note_kind-clause-makes g c =
     let next = subst (Upto (watch m.watcher) (formula m.expression) m c.loop-event.self (closing c.args.step)) (left_next kinds i (omega (arith, five, c.loop-event-test.true))) c.loop-event.invariant in
     let said : c.from_residual.result ≡ Err c.in_err-note_kind.field-0.0 = search rules in
     subst (λ (r : Result (Unit {0}) Refusal). Makes (watch m.watcher) (formula m.expression) m (closing c.args.step) r c.note_kind.new.self) (sym said)
-    (upto_refused watch m c.loop-event.self c.note_kind.new.self (closing c.args.step) (note_of i (get_or kinds i None)) (left_from kinds (i + 1)) next c.note_kind.ensures.same c.in_err-note_kind.field-0.0 c.in_err-note_kind.ensures.makes)
+    (upto_refused watch m c.loop-event.self c.note_kind.new.self (closing c.args.step) (note_of i (get_or kinds i None)) (left_from kinds (i + 1)) next c.note_kind.ensures.same c.in_err-note_kind.field-0.0
+    (made_at _ _ _ _ _ _ i _ c.in_err-note_kind.ensures.makes (omega arith)))
 
 pub returns-clause-makes : goal.returns-clause-makes
 returns-clause-makes g c =

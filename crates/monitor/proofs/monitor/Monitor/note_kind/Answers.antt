@@ -1,4 +1,4 @@
-use Rattle.std.proofs.Common.{ℕ, Option, sym, subst}
+use Rattle.std.proofs.Common.{rules, ◌≡◌, ℕ, Option, sym, subst}
 use Rattle.watch.specs.Kinds.{kind_number}
 use Rattle.watch.specs.declared.kind.Kind.{Kind}
 use Rattle.expression.specs.Expressions.{formula}
@@ -14,6 +14,9 @@ returns-in-Some-clause-makes g c =
     let m = c.args.self.now in
     let w = g.W.Watcher.watching m.watcher in
     let f = formula m.expression in
+    let number : ℕ = kind_number c.in-Some.kind in
+    let Noted : ℕ → Type 0 = λ k. Takes w f m (Note c.args.event k) (λ plain. note_answer w.events plain c.args.event k) c.note.result c.note.new.self in
+    let told : (k : ℕ) → k ≡ number → Noted k → Noted number = λ k is noted. subst Noted is noted in
+    let noted : Noted number = search (rules, told, c.from.ensures, c.note.ensures.takes) in
     subst (λ (k : Option Kind). Makes w f m (note_of c.args.event k) c.note.result c.note.new.self) (sym c.in-Some.is)
-    (one_note w f m c.note.new.self c.args.event (kind_number c.in-Some.kind) c.note.result
-    (subst (λ (k : ℕ). Takes w f m (Note c.args.event k) (λ plain. note_answer w.events plain c.args.event k) c.note.result c.note.new.self) c.from.ensures c.note.ensures.takes))
+    (one_note w f m c.note.new.self c.args.event number c.note.result noted)
