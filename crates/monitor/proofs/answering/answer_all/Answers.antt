@@ -22,6 +22,7 @@ loop-place-init g c =
       refl,
     )
 
+-- The call is the one at this place, taken from the loop or by index. `Note 0 0` stands for what lies behind the calls.
 pub loop-place-preserved : goal.loop-place-preserved
 loop-place-preserved g c =
     let i : ℕ = c.loop-place.place in

@@ -8,6 +8,8 @@ use Rattle.outlook.specs.declared.search.Stop.{Stop}
 use Rattle.outlook.proofs.Sharing.{some_in, none_in, shared_none, shared_alone, shared_told}
 use Rattle.outlook.proofs.tables.share.Goals as goal
 
+-- What the group shares is found of a slice of all its places too: a body that leaves one out is then refused for
+-- that place, and not for slicing.
 pub returns-then-not-any : goal.returns-then-not-any
 returns-then-not-any c =
     let none : list_any (λ (s : Stop). at c.args.table.now s.state.number) c.args.group.now ≡ false = search (rules, take-length, sub-zero) in

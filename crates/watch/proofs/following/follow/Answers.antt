@@ -8,6 +8,7 @@ use Rattle.watch.proofs.following.follow.Goals as goal
 pub returns-in-Some-clause-others : goal.returns-in-Some-clause-others
 returns-in-Some-clause-others g c = no_mark_holds _ (g.met.W.Watcher.lawful c.args.watcher.now)
 
+-- The letter is the one at this place, taken from the loop or by index.
 pub loop-place-preserved : goal.loop-place-preserved
 loop-place-preserved g c =
     let w = g.W.Watcher.watching c.args.watcher.now in

@@ -9,6 +9,7 @@ use Rattle.monitor.specs.declared.calls.Call.TheVariants.{Note}
 use Rattle.monitor.proofs.Making.{one_note}
 use Rattle.monitor.proofs.monitor.Monitor.note_kind.Goals as goal
 
+-- What was noted is the kind's number by its value, and not only as the conversion's own result.
 pub returns-in-Some-clause-makes : goal.returns-in-Some-clause-makes
 returns-in-Some-clause-makes g c =
     let m = c.args.self.now in
